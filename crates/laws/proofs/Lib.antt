@@ -1,0 +1,7 @@
+-- The laws that several crates' proofs cite.
+pub mod Tests
+pub mod Arms
+pub mod Search
+pub mod Table
+pub mod Sweep
+pub mod Signed

@@ -1,0 +1,90 @@
+-- A loop that replaces each element of a list by its image, one store a turn: after i turns the list is `swept f i d`. For any type
+-- of element; filling a list with one value is the sweep by a constant.
+-- Assumes nothing.
+use mathlib.Core.Path.{_≡_, refl, sym, ap, _∙_}
+use mathlib.Core.List.{List, [], _∷_, map}
+use Prim.Native.Nat.{ℕ, zero, suc, _+_, _≤_, _<_, zero-le}
+use native.Mathlib.Omega.{arith}
+use native.Mathlib.Nat.{not-suc-le-zero, le-of-suc-le-suc}
+use native.Mathlib.Numerals.{add-one}
+use lib.ListN.{length, set, getD, length-set, replicate}
+
+module _ {A : Type 0} where
+  -- the first i elements of d are their images
+  unfoldable pub swept : (A → A) → ℕ → List A → List A
+  swept f zero d = d
+  swept f (suc i) [] = []
+  swept f (suc i) (x ∷ d) = f x ∷ swept f i d
+
+  pub swept-none : (f : A → A) (d : List A) → d ≡ swept f 0 d
+  unfolding swept
+  swept-none f d = refl
+
+  pub swept-length : (f : A → A) (i : ℕ) (d : List A) → length (swept f i d) ≡ length d
+  unfolding swept
+  swept-length f zero d = refl
+  swept-length f (suc i) [] = refl
+  swept-length f (suc i) (x ∷ d) = ap suc (swept-length f i d)
+
+  -- the element that the next turn reads is as it was
+  pub swept-at : (f : A → A) (i : ℕ) (d : List A) (z : A) → getD (swept f i d) i z ≡ getD d i z
+  unfolding swept
+  swept-at f zero d z = refl
+  swept-at f (suc i) [] z = refl
+  swept-at f (suc i) (x ∷ d) z = swept-at f i d z
+
+  swept-suc : (f : A → A) (i : ℕ) (d : List A) (z : A) → i < length d → set (swept f i d) i (f (getD d i z)) ≡ swept f (suc i) d
+  unfolding swept
+  swept-suc f i [] z h = absurd (not-suc-le-zero h)
+  swept-suc f zero (x ∷ d) z h = refl
+  swept-suc f (suc i) (x ∷ d) z h = ap (λ (t : List A). f x ∷ t) (swept-suc f i d z (le-of-suc-le-suc h))
+
+  -- a turn, as the loop has it: l is the list now, v what is stored
+  pub swept-more : (f : A → A) (i : ℕ) (d l : List A) (z v : A) → i < length d → l ≡ swept f i d → v ≡ f (getD l i z) → set l i v ≡ swept f (i + 1) d
+  swept-more f i d l z v h e q =
+      ap (λ (x : A). set l i x) (q ∙ ap (λ (t : List A). f (getD t i z)) e ∙ ap f (swept-at f i d z))
+      ∙ ap (λ (t : List A). set t i (f (getD d i z))) e
+      ∙ swept-suc f i d z h
+      ∙ ap (λ (k : ℕ). swept f k d) (sym (add-one i))
+
+  -- at the end every element is its image
+  pub swept-all : (f : A → A) (i : ℕ) (d : List A) → length d ≤ i → swept f i d ≡ map f d
+  unfolding swept
+  swept-all f zero [] h = refl
+  swept-all f zero (x ∷ d) h = absurd (not-suc-le-zero h)
+  swept-all f (suc i) [] h = refl
+  swept-all f (suc i) (x ∷ d) h = ap (λ (t : List A). f x ∷ t) (swept-all f i d (le-of-suc-le-suc h))
+
+  -- the loop's invariant: d is the list at the start, and l after i turns
+  pub record Sweeping (f : A → A) (d : List A) (l : List A) (i : ℕ) : Type 0 where
+    pub within : i ≤ length d
+    pub long : length l ≡ length d
+    pub is : l ≡ swept f i d
+
+  pub sweep-start : (f : A → A) (d : List A) → Sweeping f d d 0
+  sweep-start f d = record { within = zero-le; long = refl; is = swept-none f d }
+
+  pub sweep-turn : {f : A → A} {d l : List A} {i : ℕ} (z v : A) → Sweeping f d l i → i < length l → v ≡ f (getD l i z) → Sweeping f d (set l i v) (i + 1)
+  sweep-turn {f} {d} {l} {i} z v s h e =
+      record {
+        within = omega arith;
+        long = length-set l i v ∙ s .long;
+        is = swept-more f i d l z v (omega arith) (s .is) e;
+      }
+
+  pub sweep-end : {f : A → A} {d l : List A} {i : ℕ} → Sweeping f d l i → length l ≤ i → l ≡ map f d
+  sweep-end {f} {d} {l} {i} s h = s .is ∙ swept-all f i d (omega arith)
+
+  -- ---- whole tables
+  pub map-const : (v : A) (l : List A) → map (λ (x : A). v) l ≡ replicate (length l) v
+  map-const v [] = refl
+  map-const v (x ∷ l) = ap (λ (t : List A). v ∷ t) (map-const v l)
+
+  pub map-same : (f : A → A) → ((x : A) → f x ≡ x) → (l : List A) → map f l ≡ l
+  map-same f h [] = refl
+  map-same f h (x ∷ l) = λ i. h x i ∷ map-same f h l i
+
+  -- two sweeps that come to one
+  pub map-twice : (f g h : A → A) → ((x : A) → f x ≡ g (h x)) → (l : List A) → map f l ≡ map g (map h l)
+  map-twice f g h e [] = refl
+  map-twice f g h e (x ∷ l) = λ i. e x i ∷ map-twice f g h e l i

@@ -1,0 +1,3 @@
+-- The words that several crates' definitions share.
+pub mod Search
+pub mod Choice

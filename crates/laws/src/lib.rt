@@ -1,0 +1,1 @@
+// No code: the definitions and lemmas that several crates cite, each stated once.
