@@ -37,6 +37,9 @@ pub or-right : (s t : Bool) → (s || t) ≡ false → t ≡ false
 or-right true t e = true-is-not-false refl e
 or-right false t e = e
 
+pub or-no : {s t : Bool} → s ≡ false → t ≡ false → (s || t) ≡ false
+or-no {s} {t} p q = ap (λ (b : Bool). b || t) p ∙ q
+
 -- two equal tests choose alike
 pub cond-at : {A : Type 0} {s t : Bool} (x y : A) → s ≡ t → cond s x y ≡ cond t x y
 cond-at x y e = ap (λ (b : Bool). cond b x y) e

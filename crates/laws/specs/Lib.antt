@@ -1,3 +1,4 @@
 -- The words that several crates' definitions share.
 pub mod Search
 pub mod Choice
+pub mod Signed

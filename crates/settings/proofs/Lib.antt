@@ -1,0 +1,2 @@
+-- What callers' proofs cite of the settings.
+pub mod Ranges

@@ -1,0 +1,2 @@
+-- What the settings are.
+pub mod Settings

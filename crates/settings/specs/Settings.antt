@@ -1,0 +1,26 @@
+-- Document 01, "Settings and sizes": the settings.
+-- Assumes nothing.
+use mathlib.Core.Bool.{Bool, _||_}
+use Prim.Native.Nat.{ℕ}
+use lib.Dec.{ltb}
+use lib.IntN.{ℤ, pos}
+use lib.Signed.{ltZ}
+use lib.ListN.{replicate}
+use Rattle.laws.specs.Signed.{minus}
+use Rattle.settings.specs.declared.Settings.{Settings}
+
+-- "Threshold T 1 to 255. Floor Cmin -1,000 to 0. Dmiss 1 to 3,600 seconds. Dconn 1 to 62 minutes."
+abbrev pub outside : ℕ → ℕ → ℕ → Bool
+outside least most n = ltb n least || ltb most n
+
+abbrev pub outsideℤ : ℤ → ℤ → ℤ → Bool
+outsideℤ least most z = ltZ z least || ltZ most z
+
+-- refusal 1: "a setting is outside its range"; "eight 32-bit round keys, free"
+unfoldable pub badSettings : Settings → Bool
+badSettings s =
+    outside 1 255 (s .threshold) || outsideℤ (minus 1000) (pos 0) (s .floor) || outside 1 3600 (s .dmiss) || outside 1 62 (s .dconn)
+
+-- "The factory settings belong to the settings type itself: T 10, Cmin -20, Dmiss 60, Dconn 10, keys all zero."
+abbrev pub factorySettings : Settings
+factorySettings = record { threshold = 10; floor = minus 20; dmiss = 60; dconn = 10; keys = replicate 8 0 }

@@ -1,0 +1,51 @@
+// The settings of a gateway: their factory values, and refusal 1.
+ghost use mathlib.Core.Path.{_≡_};
+ghost use Rattle.settings.specs.Settings.{factorySettings, badSettings};
+
+// Each field is wider than its range, so that a value outside it can be given, and is refused.
+pub struct Settings {
+    // T: a cell address is blocked when its count is at least this.
+    pub threshold: u16,
+    // Cmin: no credit lowers a count below this.
+    pub floor: i16,
+    // Dmiss: at each multiple of so many seconds every positive count falls by one.
+    pub dmiss: u16,
+    // Dconn: a connection record lives over so many minute boundaries.
+    pub dconn: u8,
+    // The eight round keys of the address permutation.
+    pub keys: [u32; 8],
+}
+
+impl Settings {
+    pub const T: u16 = 10;
+    pub const CMIN: i16 = -20;
+    pub const DMISS: u16 = 60;
+    pub const DCONN: u8 = 10;
+
+    // The factory settings, with keys all zero.
+    pub fn factory() -> Settings
+        ensures { λ r. ⌜ r ≡ factorySettings ⌝ }
+    {
+        Settings {
+            threshold: Self::T,
+            floor: Self::CMIN,
+            dmiss: Self::DMISS,
+            dconn: Self::DCONN,
+            keys: [0; 8],
+        }
+    }
+
+    // Refusal 1: whether a setting is outside its range.
+    pub fn is_bad(self) -> bool
+        ensures { λ r. ⌜ r ≡ badSettings self ⌝ }
+    {
+        let threshold = self.threshold;
+        let floor = self.floor;
+        let dmiss = self.dmiss;
+        let dconn = self.dconn;
+        ((threshold < 1) | (255 < threshold))
+            | ((floor < -1000) | (0 < floor))
+            | ((dmiss < 1) | (3600 < dmiss))
+            | ((dconn < 1) | (62 < dconn))
+    }
+}

@@ -1,0 +1,2 @@
+-- What a number made of bytes is.
+pub mod Words
