@@ -18,8 +18,11 @@ pub struct Settings {
 
 impl Settings {
     pub const T: u16 = 10;
+
     pub const CMIN: i16 = -20;
+
     pub const DMISS: u16 = 60;
+
     pub const DCONN: u8 = 10;
 
     // The factory settings, with keys all zero.

@@ -14,8 +14,5 @@ pub fn two(first: u8, second: u8) -> u16
 pub fn four(first: u8, second: u8, third: u8, fourth: u8) -> u32
     ensures { λ r. ⌜ r ≡ ofFour first second third fourth ⌝ }
 {
-    (first as u32) * 16777216
-        + (second as u32) * 65536
-        + (third as u32) * 256
-        + (fourth as u32)
+    (first as u32) * 16777216 + (second as u32) * 65536 + (third as u32) * 256 + (fourth as u32)
 }

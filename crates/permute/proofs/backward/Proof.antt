@@ -1,0 +1,75 @@
+-- `permute::backward` meets its contract. The loop's invariant: y with r rounds still to undo gives the word with all eight undone.
+-- Assumes nothing.
+use mathlib.Core.Path.{_≡_, refl, ap, sym, _∙_}
+use Prim.Native.Nat.{ℕ, suc, _≤_, _-_, _<_}
+use native.Mathlib.Omega.{arith}
+use borrow.Author.Needs.{needs}
+use Rattle.permute.specs.Permutation.{unrounds, D}
+use Rattle.permute.proofs.Tables.{inverses-small}
+use Rattle.permute.proofs.backward.Statement.{statement}
+use Rattle.permute.proofs.backward.Tie as tie
+
+abbrev Inv-loop : tie.InvT-loop
+Inv-loop table keys word y₀ r₀ y r = (r ≤ 8) × (unrounds r keys y ≡ D keys word)
+
+abbrev μ-loop : tie.MeasureT-loop
+μ-loop table keys word y₀ r₀ y r = r
+
+loop-holds : tie.Need-loop-holds Inv-loop μ-loop
+unfolding D
+loop-holds c = (search needs, refl)
+
+sub-r : tie.Need-sub-r Inv-loop μ-loop
+sub-r c = search needs
+
+mul-turned-back : tie.Need-mul-turned-back Inv-loop μ-loop
+mul-turned-back c = search needs
+
+index-1-turned-back : tie.Need-index-1-turned-back Inv-loop μ-loop
+index-1-turned-back c = search needs
+
+mul-turned-back-2 : tie.Need-mul-turned-back-2 Inv-loop μ-loop
+mul-turned-back-2 c = search needs
+
+element-copy-out-turned-back : tie.Need-element-copy-out-turned-back Inv-loop μ-loop
+element-copy-out-turned-back c = search needs
+
+turned-back-requires : tie.Need-turned-back-requires Inv-loop μ-loop
+turned-back-requires c κs =
+    let w = c .before .before in
+    rw (w .before .before .pre) (inverses-small (w .before .loop .r - 1) (omega arith))
+
+loop-less : tie.Need-loop-less Inv-loop μ-loop
+loop-less c = search needs
+
+loop-again : tie.Need-loop-again Inv-loop μ-loop
+unfolding unrounds
+loop-again c =
+    let w = c .before .before .before in
+    let r = w .before .loop .r in
+    let e : r ≡ suc (r - 1) = omega arith in
+    let done = rw e at (w .before .loop .inv .1) in
+    (search needs, rw (c .turned-back .ensures, w .before .before .pre) done)
+
+returns : tie.Need-returns Inv-loop μ-loop
+unfolding unrounds
+returns c =
+    let e : c .before .loop .r ≡ 0 = omega arith in
+    rw e at (c .before .loop .inv .1)
+
+pub backward-spec : {M : Type 1} → statement M
+backward-spec =
+    tie.close
+    (tie.spec
+    Inv-loop
+    μ-loop
+    loop-holds
+    sub-r
+    mul-turned-back
+    index-1-turned-back
+    mul-turned-back-2
+    element-copy-out-turned-back
+    turned-back-requires
+    loop-less
+    loop-again
+    returns)

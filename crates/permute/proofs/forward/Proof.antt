@@ -1,0 +1,73 @@
+-- `permute::forward` meets its contract. The loop's invariant: y is the word after the first r rounds.
+-- Assumes nothing.
+use mathlib.Core.Path.{_≡_, refl, ap, _∙_}
+use Prim.Native.Nat.{ℕ, _≤_, _-_}
+use native.Mathlib.Numerals.{add-one}
+use native.Mathlib.Omega.{arith}
+use borrow.Author.Needs.{needs}
+use Rattle.permute.specs.Permutation.{rounds, E}
+use Rattle.permute.proofs.Tables.{boxes-small}
+use Rattle.permute.proofs.forward.Statement.{statement}
+use Rattle.permute.proofs.forward.Tie as tie
+
+abbrev Inv-loop : tie.InvT-loop
+Inv-loop table keys word y₀ r₀ y r = (r ≤ 8) × (y ≡ rounds r keys word)
+
+abbrev μ-loop : tie.MeasureT-loop
+μ-loop table keys word y₀ r₀ y r = 8 - r
+
+loop-holds : tie.Need-loop-holds Inv-loop μ-loop
+unfolding rounds
+loop-holds c = (search needs, refl)
+
+mul-turned : tie.Need-mul-turned Inv-loop μ-loop
+mul-turned c = search needs
+
+index-1-turned : tie.Need-index-1-turned Inv-loop μ-loop
+index-1-turned c = search needs
+
+mul-turned-2 : tie.Need-mul-turned-2 Inv-loop μ-loop
+mul-turned-2 c = search needs
+
+element-copy-out-turned : tie.Need-element-copy-out-turned Inv-loop μ-loop
+element-copy-out-turned c = search needs
+
+turned-requires : tie.Need-turned-requires Inv-loop μ-loop
+turned-requires c κs =
+    let w = c .before .before in
+    rw (w .before .before .pre) (boxes-small (w .before .loop .r) (w .loop-test .taken))
+
+add-r : tie.Need-add-r Inv-loop μ-loop
+add-r c = search needs
+
+loop-less : tie.Need-loop-less Inv-loop μ-loop
+loop-less c = search needs
+
+loop-again : tie.Need-loop-again Inv-loop μ-loop
+unfolding rounds
+loop-again c =
+    let w = c .before .before .before in
+    (search needs, rw (add-one, ← (w .before .loop .inv .1), ← (w .before .before .pre)) (c .turned .ensures))
+
+returns : tie.Need-returns Inv-loop μ-loop
+unfolding E
+returns c =
+    let e : c .before .loop .r ≡ 8 = omega arith in
+    rw e at (c .before .loop .inv .1)
+
+pub forward-spec : {M : Type 1} → statement M
+forward-spec =
+    tie.close
+    (tie.spec
+    Inv-loop
+    μ-loop
+    loop-holds
+    mul-turned
+    index-1-turned
+    mul-turned-2
+    element-copy-out-turned
+    turned-requires
+    add-r
+    loop-less
+    loop-again
+    returns)

@@ -1,0 +1,3 @@
+-- What the permutation is, and what it places.
+pub mod Permutation
+pub mod Places

@@ -1,0 +1,166 @@
+// The address permutation E and its inverse, and what they place: the slot of a connection, the line and tag of an address, and the
+// way back from line and tag.
+ghost use mathlib.Core.Path.{_≡_};
+ghost use Prim.Native.Nat.{_<_};
+ghost use Rattle.permute.specs.Permutation.{at, Nibbles, boxes, inverses, nibbles, left11, right11, round, unround, E, D};
+ghost use Rattle.permute.specs.Places.{slotOf, placeOf, addressOf};
+
+// S-box r stands in row r. The name of a constant table makes a copy of it, so it is named once for a run of rounds, and lent.
+const BOXES: [[u8; 16]; 8] = [
+    [3, 8, 15, 1, 10, 6, 5, 11, 14, 13, 4, 2, 7, 0, 9, 12],
+    [15, 12, 2, 7, 9, 0, 5, 10, 1, 11, 14, 8, 6, 13, 3, 4],
+    [8, 6, 7, 9, 3, 12, 10, 15, 13, 1, 14, 4, 0, 11, 5, 2],
+    [0, 15, 11, 8, 12, 9, 6, 3, 13, 1, 2, 4, 10, 7, 5, 14],
+    [1, 15, 8, 3, 12, 0, 11, 6, 2, 5, 4, 10, 9, 14, 7, 13],
+    [15, 5, 2, 11, 4, 10, 9, 12, 0, 3, 14, 8, 13, 6, 7, 1],
+    [7, 2, 12, 5, 8, 4, 6, 11, 14, 9, 1, 13, 15, 3, 10, 0],
+    [1, 13, 15, 0, 14, 8, 2, 11, 7, 4, 12, 10, 9, 3, 5, 6],
+];
+
+// The inverse of S-box r stands in row r.
+const INVERSES: [[u8; 16]; 8] = [
+    [13, 3, 11, 0, 10, 6, 5, 12, 1, 14, 4, 7, 15, 9, 8, 2],
+    [5, 8, 2, 14, 15, 6, 12, 3, 11, 4, 7, 9, 1, 13, 10, 0],
+    [12, 9, 15, 4, 11, 14, 1, 2, 0, 3, 6, 13, 5, 8, 10, 7],
+    [0, 9, 10, 7, 11, 14, 6, 13, 3, 5, 12, 2, 4, 8, 15, 1],
+    [5, 0, 8, 3, 10, 9, 7, 14, 2, 12, 11, 6, 4, 15, 13, 1],
+    [8, 15, 2, 9, 4, 1, 13, 14, 11, 6, 5, 3, 7, 12, 10, 0],
+    [15, 10, 1, 13, 5, 3, 6, 0, 4, 9, 14, 7, 2, 11, 8, 12],
+    [3, 0, 6, 13, 9, 14, 15, 8, 5, 12, 11, 7, 10, 1, 4, 2],
+];
+
+// What a row has at a nibble, which is a nibble too.
+fn image(row: &[u8; 16], nibble: u32) -> u32
+    requires { ⌜ (Nibbles (now row)) × (nibble < 16) ⌝ }
+    ensures { λ r. ⌜ (r ≡ at (now (row .entry)) nibble) × (r < 16) ⌝ }
+{
+    row[nibble as usize] as u32
+}
+
+// Each of the eight nibbles of a word replaced by what the row has there. The eight terms do not wait for each other.
+fn substituted(row: &[u8; 16], word: u32) -> u32
+    requires { ⌜ Nibbles (now row) ⌝ }
+    ensures { λ r. ⌜ r ≡ nibbles 8 (at (now (row .entry))) word ⌝ }
+{
+    image(row, word % 16)
+        + image(row, word / 16 % 16) * 16
+        + image(row, word / 256 % 16) * 256
+        + image(row, word / 4096 % 16) * 4096
+        + image(row, word / 65536 % 16) * 65536
+        + image(row, word / 1048576 % 16) * 1048576
+        + image(row, word / 16777216 % 16) * 16777216
+        + image(row, word / 268435456) * 268435456
+}
+
+// A rotation to the left by 11 places, and back.
+fn rotated_left(word: u32) -> u32
+    ensures { λ r. ⌜ r ≡ left11 word ⌝ }
+{
+    word % 2097152 * 2048 + word / 2097152
+}
+
+fn rotated_right(word: u32) -> u32
+    ensures { λ r. ⌜ r ≡ right11 word ⌝ }
+{
+    word % 2048 * 2097152 + word / 2048
+}
+
+// One round, on the row and the key that are its own; and one round undone.
+fn turned(row: &[u8; 16], key: u32, word: u32) -> u32
+    requires { ⌜ Nibbles (now row) ⌝ }
+    ensures { λ r. ⌜ r ≡ round (at (now (row .entry))) key word ⌝ }
+{
+    rotated_left(substituted(row, std::num::wrapping_add_u32(word, key)))
+}
+
+fn turned_back(row: &[u8; 16], key: u32, word: u32) -> u32
+    requires { ⌜ Nibbles (now row) ⌝ }
+    ensures { λ r. ⌜ r ≡ unround (at (now (row .entry))) key word ⌝ }
+{
+    std::num::wrapping_sub_u32(substituted(row, rotated_right(word)), key)
+}
+
+// The rounds in their order on a lent table of S-boxes, and backward on one of their inverses.
+fn forward(table: &[[u8; 16]; 8], keys: &[u32; 8], word: u32) -> u32
+    requires { ⌜ now table ≡ boxes ⌝ }
+    ensures { λ r. ⌜ r ≡ E (now (keys .entry)) word ⌝ }
+{
+    let mut y = word;
+    for r in 0..8usize {
+        y = turned(&table[r], keys[r], y);
+    }
+    y
+}
+
+fn backward(table: &[[u8; 16]; 8], keys: &[u32; 8], word: u32) -> u32
+    requires { ⌜ now table ≡ inverses ⌝ }
+    ensures { λ r. ⌜ r ≡ D (now (keys .entry)) word ⌝ }
+{
+    let mut y = word;
+    let mut r = 8usize;
+    while 0 < r {
+        r -= 1;
+        y = turned_back(&table[r], keys[r], y);
+    }
+    y
+}
+
+// The permutation of a word, under eight round keys.
+pub fn encrypt(keys: &[u32; 8], word: u32) -> u32
+    ensures { λ r. ⌜ r ≡ E (now (keys .entry)) word ⌝ }
+{
+    forward(&BOXES, keys, word)
+}
+
+// Its inverse.
+pub fn decrypt(keys: &[u32; 8], word: u32) -> u32
+    ensures { λ r. ⌜ r ≡ D (now (keys .entry)) word ⌝ }
+{
+    backward(&INVERSES, keys, word)
+}
+
+// The slot of a connection among a number of records. Any word may stand in the port's place.
+pub fn slot(keys: &[u32; 8], plant: u32, cell: u32, port: u32, records: u32) -> u32
+    ensures { λ r. ⌜ r ≡ slotOf (now (keys .entry)) plant cell port records ⌝ }
+{
+    let table = BOXES;
+    let pair = forward(&table, keys, forward(&table, keys, plant) ^ cell);
+    let word = forward(&table, keys, pair ^ port);
+    if records == 0 {
+        return word;
+    }
+    word % records
+}
+
+// Where the address table keeps an address: in which line, and under which tag.
+pub struct Place {
+    pub line: u32,
+    pub tag: u32,
+}
+
+// The line and tag of an address among a number of lines.
+pub fn place_of(keys: &[u32; 8], address: u32, lines: u32) -> Place
+    ensures { λ r. ⌜ r ≡ placeOf (now (keys .entry)) address lines ⌝ }
+{
+    let word = encrypt(keys, address);
+    if lines == 0 {
+        return Place { line: word, tag: 0 };
+    }
+    Place {
+        line: word % lines,
+        tag: word / lines,
+    }
+}
+
+// The address that a line and a tag name.
+pub fn address_of(keys: &[u32; 8], place: Place, lines: u32) -> u32
+    ensures { λ r. ⌜ r ≡ addressOf (now (keys .entry)) place lines ⌝ }
+{
+    if lines == 0 {
+        return decrypt(keys, place.line);
+    }
+    let each = lines as u64;
+    let tags = 4294967296 / each;
+    let word = place.tag as u64 % tags * each + place.line as u64;
+    decrypt(keys, (word % 4294967296) as u32)
+}
