@@ -7,7 +7,9 @@ use native.Mathlib.Nat.{not-suc-le-zero, le-of-suc-le-suc}
 use native.Mathlib.Numerals.{add-one}
 use native.Mathlib.Decide.{decLt}
 use native.Mathlib.Omega.{arith}
+use lib.Dec.{leb}
 use borrow.Author.Count.{below-none, below-more}
+use borrow.Author.Tests.{le-leb, leb-true, leb-false}
 use Rattle.laws.specs.Search.{every, firstBelow, foremost}
 use Rattle.laws.proofs.Tests.{true-is-not-false, is-false, and-left, and-right, and-yes, cond-at}
 
@@ -110,6 +112,15 @@ pub record Order {A : Type 0} (within : A → A → Bool) : Type 0 where
   pub through : {a b c : A} → within a b ≡ true → within b c ≡ true → within a c ≡ true
   pub either : {a b : A} → within a b ≡ false → within b a ≡ true
 
+-- numbers, by size
+pub by-size : Order leb
+by-size =
+    record {
+      same = λ a. le-leb a a (omega arith);
+      through = λ {a} {b} {c} p q. le-leb a c (omega (arith, leb-true a b p, leb-true b c q));
+      either = λ {a} {b} e. le-leb b a (omega (arith, leb-false a b e));
+    }
+
 -- a loop that looks for the foremost: of the first i, none goes beyond `best`, and each one before it falls short of it
 pub record Leading {A : Type 0} (within : A → A → Bool) (f : ℕ → A) (best i : ℕ) : Type 0 where
   pub passed : best < i
@@ -149,3 +160,7 @@ module _ {A : Type 0} {within : A → A → Bool} (o : Order within) (f : ℕ �
       next : (best : ℕ) → Leading within f best (suc n) → (t : Bool) → within (f (suc n)) (f best) ≡ t → (b : ℕ) × Leading within f b (suc (suc n))
       next best s true e = (best, rw add-one at (lead-kept s e))
       next best s false e = (suc n, rw add-one at (lead-found s e))
+
+  -- so the foremost leads
+  pub lead-is : (n : ℕ) → Leading within f (foremost within f (suc n)) (suc n)
+  lead-is n = subst (λ (b : ℕ). Leading within f b (suc n)) (lead-end (suc n) (lead-of n .1) refl) (lead-of n .1)

@@ -1,0 +1,3 @@
+-- What is proved of side lists beyond the contracts.
+pub mod Steps
+pub mod Longest

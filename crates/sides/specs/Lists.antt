@@ -1,0 +1,79 @@
+-- Document 01, "Which side", and refusal 3.
+-- Assumes nothing.
+use mathlib.Core.Bool.{Bool, true, false, cond, not, _&&_, _||_}
+use mathlib.Core.List.{List, []}
+use Prim.Native.Nat.{ℕ, zero, suc, _+_, _*_, _-_, _/_, _%_, _^_}
+use lib.Dec.{eqb, leb, ltb}
+use lib.ListN.{length, getD, take, drop}
+use denote.Ref.{RefT}
+use Rattle.laws.specs.Search.{every, foremost}
+use Rattle.words.specs.Words.{fourAt}
+use Rattle.sides.specs.declared.Best.{Best}
+use Rattle.sides.specs.declared.Side.{Side}
+use Rattle.sides.specs.declared.Side.the-variants.{Cell, Plant, Neither}
+
+-- "A side list has entries of five bytes: address, most significant byte first, then prefix length."
+abbrev pub entries : List ℕ → ℕ
+entries l = length l / 5
+
+abbrev pub netAt : List ℕ → ℕ → ℕ
+netAt l k = fourAt l (5 * k)
+
+abbrev pub prefixAt : List ℕ → ℕ → ℕ
+prefixAt l k = getD l (5 * k + 4) 0
+
+-- refusal 3: "a side list's length isn't a multiple of 5, it has over 64 entries, or a prefix length is over 32"
+unfoldable pub badList : List ℕ → Bool
+badList l = (not (eqb (length l % 5) 0) || ltb 64 (entries l)) || not (every (entries l) (λ k. leb (prefixAt l k) 32))
+
+-- "Address bits beyond the prefix are ignored." A prefix length over 32, which refusal 3 keeps out, holds no address.
+unfoldable pub holds : List ℕ → ℕ → ℕ → Bool
+holds l address k =
+    leb (prefixAt l k) 32 && eqb (address / 2 ^ (32 - prefixAt l k)) (netAt l k / 2 ^ (32 - prefixAt l k))
+
+-- an entry that holds the address ranks above no entry, and by its prefix length
+unfoldable pub rankAt : List ℕ → ℕ → ℕ → ℕ
+rankAt l address k = cond (holds l address k) (prefixAt l k + 1) 0
+
+-- the same by the entries' numbers, from 1, with 0 for no entry
+unfoldable pub rankOf : List ℕ → ℕ → ℕ → ℕ
+rankOf l address zero = 0
+rankOf l address (suc k) = rankAt l address k
+
+-- "the longest prefix that holds it; .. inside a list the first such entry": the first number whose rank no other's exceeds
+unfoldable pub bestNumber : List ℕ → ℕ → ℕ
+bestNumber l address = foremost leb (rankOf l address) (suc (entries l))
+
+unfoldable pub bestIn : List ℕ → ℕ → Best
+bestIn l address = record { number = bestNumber l address; rank = rankOf l address (bestNumber l address) }
+
+-- "An address belongs to the list with the longest prefix that holds it; at equal length the cell list wins"
+unfoldable pub decided {ℓ} : {A : Type ℓ} → Best → Best → A → A → A → A
+decided ofCell ofPlant cell plant neither =
+    cond (ltb (ofCell .rank) (ofPlant .rank)) plant (cond (ltb 0 (ofCell .rank)) cell neither)
+
+abbrev pub sideOf : List ℕ → List ℕ → ℕ → Side
+sideOf cell plant address = decided (bestIn cell address) (bestIn plant address) Cell Plant Neither
+
+-- "The lookup hands back the winning entry as part of whichever list held it, and an empty part of the cell list where neither holds
+-- the address": the bytes of the part,
+abbrev pub entryOf : List ℕ → ℕ → List ℕ
+entryOf l number = take 5 (drop (5 * number - 5) l)
+
+abbrev pub winnerOf : List ℕ → List ℕ → ℕ → List ℕ
+winnerOf cell plant address =
+    decided (bestIn cell address) (bestIn plant address)
+    (entryOf cell (bestIn cell address .number))
+    (entryOf plant (bestIn plant address .number))
+    []
+
+-- and where they lie: so many bytes into the cell list, or into the plant list
+abbrev pub past : ℕ × ℕ → ℕ → ℕ × ℕ
+past list bytes = (list .0, bytes + list .1)
+
+abbrev pub winnerAt : RefT (List ℕ) → RefT (List ℕ) → ℕ → ℕ × ℕ
+winnerAt cell plant address =
+    decided (bestIn (cell .now) address) (bestIn (plant .now) address)
+    (past (cell .ptr) (5 * bestIn (cell .now) address .number - 5))
+    (past (plant .ptr) (5 * bestIn (plant .now) address .number - 5))
+    (past (cell .ptr) 0)

@@ -1,0 +1,113 @@
+// Which side an address is on, by two side lists. A list has entries of five bytes: an address, most significant byte first, then a
+// prefix length.
+ghost use mathlib.Core.Path.{_≡_};
+ghost use Prim.Native.Nat.{_+_, _*_, _-_, _<_, _≤_};
+ghost use lib.ListN.{length};
+ghost use Rattle.sides.specs.Lists.{badList, rankAt, bestIn, entryOf, past, winnerOf, winnerAt, sideOf};
+
+pub enum Side {
+    Cell,
+    Plant,
+    Neither,
+}
+
+// What a list has for an address: the number, from 1, of the entry that holds it best, and that entry's prefix length plus one. Both
+// are 0 where no entry holds the address.
+pub struct Best {
+    pub number: usize,
+    pub rank: u8,
+}
+
+// Refusal 3: whether a side list is not of whole entries, has over 64 of them, or a prefix length over 32.
+pub fn bad_list(list: &[u8]) -> bool
+    ensures { λ r. ⌜ r ≡ badList (now (list .entry)) ⌝ }
+{
+    let entries = list.len() / 5;
+    if (list.len() % 5 != 0) | (64 < entries) {
+        return true;
+    }
+    for k in 0..entries {
+        if 32 < list[5 * k + 4] {
+            return true;
+        }
+    }
+    false
+}
+
+// The rank of an entry for an address: its prefix length plus one where it holds the address, else 0.
+fn rank(list: &[u8], k: usize, address: u32) -> u8
+    requires { ⌜ 5 * k + 5 ≤ length (now list) ⌝ }
+    ensures { λ r. ⌜ r ≡ rankAt (now (list .entry)) address k ⌝ }
+{
+    let i = 5 * k;
+    let prefix = list[i + 4];
+    if 32 < prefix {
+        return 0;
+    }
+    let net = words::four(list[i], list[i + 1], list[i + 2], list[i + 3]);
+    let beyond = 32 - prefix;
+    if (address as u64) >> beyond == (net as u64) >> beyond {
+        prefix + 1
+    } else {
+        0
+    }
+}
+
+// The entry of a list that holds an address with the longest prefix, the first such.
+pub fn best_in(list: &[u8], address: u32) -> Best
+    ensures { λ r. ⌜ r ≡ bestIn (now (list .entry)) address ⌝ }
+{
+    let entries = list.len() / 5;
+    let mut number = 0;
+    let mut top = 0;
+    for k in 0..entries {
+        let found = rank(list, k, address);
+        if top < found {
+            top = found;
+            number = k + 1;
+        }
+    }
+    Best { number, rank: top }
+}
+
+// Entry `number`, counted from 1, as a part of its list.
+fn entry<'a>(list: &'a [u8], number: usize) -> &'a [u8]
+    requires { ⌜ (0 < number) × (5 * number ≤ length (now list)) ⌝ }
+    ensures bytes { λ r. ⌜ now r ≡ entryOf (now (list .entry)) number ⌝ }
+    ensures place { λ r. ⌜ r .ptr ≡ past (list .entry .ptr) (5 * number - 5) ⌝ }
+{
+    let end = 5 * number;
+    let start = end - 5;
+    &list[start..end]
+}
+
+// The winning entry, as a part of whichever list held it; an empty part of the cell list where neither holds the address.
+pub fn winner<'a>(cell: &'a [u8], plant: &'a [u8], address: u32) -> &'a [u8]
+    ensures bytes { λ r. ⌜ now r ≡ winnerOf (now (cell .entry)) (now (plant .entry)) address ⌝ }
+    ensures place { λ r. ⌜ r .ptr ≡ winnerAt (cell .entry) (plant .entry) address ⌝ }
+{
+    let of_cell = best_in(cell, address);
+    let of_plant = best_in(plant, address);
+    if of_cell.rank < of_plant.rank {
+        return entry(plant, of_plant.number);
+    }
+    if 0 < of_cell.rank {
+        return entry(cell, of_cell.number);
+    }
+    &cell[0..0]
+}
+
+// The side that an address belongs to.
+pub fn side_of(cell: &[u8], plant: &[u8], address: u32) -> Side
+    ensures { λ r. ⌜ r ≡ sideOf (now (cell .entry)) (now (plant .entry)) address ⌝ }
+{
+    let of_cell = best_in(cell, address).rank;
+    let of_plant = best_in(plant, address).rank;
+    if of_cell < of_plant {
+        return Side::Plant;
+    }
+    if 0 < of_cell {
+        return Side::Cell;
+    }
+    Side::Neither
+}
