@@ -1,12 +1,12 @@
 -- A signed number as a difference of two naturals: z is `up z` less `dn z`, one of which is 0. One law for each operation, order
 -- and test, each stated in ℕ and linear, so that `omega` finishes what is said in ℤ: `omega (signed, plus a b, known fit)`.
 -- Assumes nothing.
-use mathlib.Core.Path.{_≡_, refl, sym, ap, subst, _∙_}
+use mathlib.Core.Path.{_≡_, refl, sym, ap, subst}
 use mathlib.Core.Bool.{Bool, true, false, cond, not}
 use Prim.Native.Nat.{ℕ, zero, suc, _+_, _-_, _≤_, _<_, _^_, zero-le, min}
 use native.Mathlib.Nat.{lt-of-le-of-lt}
 use native.Mathlib.Omega.{arith}
-use lib.Dec.{T, ltb, leb, ltb→lt, lt→ltb, leb→le, le→leb, nltb→le, nleb→lt}
+use lib.Dec.{T, ltb, ltb→lt, lt→ltb, leb→le, le→leb, nltb→le, nleb→lt}
 use lib.IntN.{ℤ, pos, negsuc, _+ℤ_, _-ℤ_, negℤ, subℕ, natAbs}
 use lib.Signed.{_≤ℤ_, _<ℤ_, leZ, ltZ, nonNeg}
 use mir.Syntax.{Width}

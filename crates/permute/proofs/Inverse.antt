@@ -2,10 +2,10 @@
 -- Assumes nothing.
 use mathlib.Core.Path.{_≡_, refl}
 use mathlib.Core.List.{List}
-use Prim.Native.Nat.{ℕ, zero, suc, _+_, _*_, _-_, _/_, _%_, _^_, _≤_, _<_}
+use Prim.Native.Nat.{ℕ, zero, suc, _+_, _-_, _%_, _^_, _≤_, _<_}
 use native.Mathlib.Omega.{arith}
 use Rattle.laws.proofs.Table.{Undone}
-use Rattle.permute.specs.Permutation.{at, box, boxes, inverses, nibbles, left11, right11, round, unround, rounds, unrounds, E, D}
+use Rattle.permute.specs.Permutation.{at, box, inverses, nibbles, left11, right11, round, unround, rounds, unrounds, E, D}
 use Rattle.permute.proofs.Nibbles.{nibbles-lt, nibbles-back}
 use Rattle.permute.proofs.Tables.{boxes-undone, inverses-undone}
 

@@ -4,7 +4,7 @@ use mathlib.Core.Path.{refl}
 use Prim.Native.Nat.{ℕ, _<_}
 use Rattle.laws.specs.Search.{every}
 use Rattle.laws.proofs.Table.{Undone, undoes, undone}
-use Rattle.permute.specs.Permutation.{at, box, boxes, inverses, Nibbles}
+use Rattle.permute.specs.Permutation.{box, boxes, inverses, Nibbles}
 use mathlib.Core.List.{[]}
 use lib.ListN.{getD}
 

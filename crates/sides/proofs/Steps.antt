@@ -1,16 +1,14 @@
 -- Laws of `rankAt`, `bestIn` and `decided`, for the proofs of the code: each from a fact that a branch leaves.
 -- Assumes nothing.
-use mathlib.Core.Path.{_≡_, refl, sym, ap, subst, _∙_}
-use mathlib.Core.Bool.{Bool, true, false, cond, _&&_}
+use mathlib.Core.Path.{_≡_, refl}
 use mathlib.Core.List.{List}
 use Prim.Native.Nat.{ℕ, zero, suc, _+_, _*_, _-_, _/_, _^_, _≤_, _<_}
 use native.Mathlib.Omega.{arith}
 use native.Mathlib.Numerals.{add-one}
-use lib.Dec.{ltb, leb, eqb}
+use lib.Dec.{leb}
 use lib.ListN.{length}
 use borrow.Author.Tests.{lt-ltb, le-ltb, lt-leb, le-leb, eq-eqb, ne-eqb}
-use Rattle.laws.specs.Search.{every, foremost}
-use Rattle.laws.proofs.Search.{Leading, by-size, first-is, lead-start, lead-found, lead-kept, lead-end, lead-is}
+use Rattle.laws.proofs.Search.{Leading, by-size, lead-start, lead-found, lead-kept, lead-end, lead-is}
 use Rattle.sides.specs.declared.Best.{Best}
 use Rattle.sides.specs.Lists.{entries, netAt, prefixAt, holds, rankAt, rankOf, bestNumber, bestIn, decided}
 

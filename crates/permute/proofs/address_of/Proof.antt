@@ -1,13 +1,12 @@
 -- `permute::address_of` meets its contract. The tag counts below the number of tags, so the word is too small to wrap.
 -- Assumes nothing.
-use mathlib.Core.Path.{_≡_, _∙_, ap}
-use Prim.Native.Nat.{ℕ, _+_, _*_, _/_, _%_, _^_, _≤_, _<_}
-use native.Mathlib.Nat.{mod-zero, div-zero, mul-zero, zero-add, mod-lt, mod-eq-of-lt, mul-le-mul-right, le-of-lt, le-trans, div-mul-le-self, le-div-iff-mul-le}
+use mathlib.Core.Path.{_≡_}
+use Prim.Native.Nat.{ℕ, _*_, _/_, _%_, _^_, _≤_, _<_}
+use native.Mathlib.Nat.{mul-zero, zero-add, mod-lt, mod-eq-of-lt, mul-le-mul-right, le-of-lt, le-trans, div-mul-le-self, le-div-iff-mul-le}
 use native.Mathlib.Omega.{arith}
 use mir.Syntax.{w32}
 use mir.Val.{Fits}
 use borrow.Author.Needs.{needs}
-use Rattle.permute.specs.Permutation.{D}
 use Rattle.permute.specs.Places.{addressOf}
 use Rattle.permute.proofs.address_of.Statement.{statement}
 use Rattle.permute.proofs.address_of.Tie as tie

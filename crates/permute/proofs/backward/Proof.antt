@@ -1,7 +1,7 @@
 -- `permute::backward` meets its contract. The loop's invariant: y with r rounds still to undo gives the word with all eight undone.
 -- Assumes nothing.
-use mathlib.Core.Path.{_≡_, refl, ap, sym, _∙_}
-use Prim.Native.Nat.{ℕ, suc, _≤_, _-_, _<_}
+use mathlib.Core.Path.{_≡_, refl}
+use Prim.Native.Nat.{suc, _≤_, _-_}
 use native.Mathlib.Omega.{arith}
 use borrow.Author.Needs.{needs}
 use Rattle.permute.specs.Permutation.{unrounds, D}

@@ -2,7 +2,6 @@
 -- Assumes nothing.
 use mathlib.Core.Logic.{⊎-elim}
 use Prim.Native.Nat.{_-_}
-use native.Mathlib.Omega.{arith}
 use borrow.Author.Needs.{needs}
 use Rattle.sides.proofs.Steps.{Besting, best-start, best-better, best-kept, best-end}
 use Rattle.sides.proofs.best_in.Statement.{statement}

@@ -1,0 +1,2 @@
+-- What is proved of reading beyond the contracts.
+pub mod Order

@@ -1,0 +1,100 @@
+-- `packet::transport_of` meets its contract: each arm is the definition's case, and the bytes that it reads are there.
+-- Assumes nothing.
+use mathlib.Core.Path.{sym, _∙_}
+use mathlib.Core.List.{[], _∷_}
+use Prim.Native.Nat.{_+_, _≤_}
+use native.Mathlib.Omega.{arith}
+use lib.ListN.{length}
+use denote.Ref.{now}
+use borrow.Author.Needs.{needs}
+use Rattle.laws.proofs.Arms.{no-key}
+use Rattle.packet.specs.Header.{transportOf}
+use Rattle.packet.proofs.Order.{tcp-there, udp-there}
+use Rattle.packet.proofs.transport_of.Statement.{statement}
+use Rattle.packet.proofs.transport_of.Tie as tie
+
+-- the transport header is there, at a match on TCP and on UDP
+tcp : (c : tie.At-match-keys1)
+    → c .before .before .before .before .before .before .header-length .result + 20 ≤ length (now (c .before .before .before .before .before .before .before .before .before .args .bytes))
+tcp c =
+    let start = c .before .before .before .before .before .before in
+    rw (start .header-length .ensures .0)
+    (tcp-there _ (start .before .before .before .pre .1) (sym (c .before .before .is-later .ensures) ∙ c .before .if1 .left) (c .match .keys1))
+
+udp : (c : tie.At-match-keys2)
+    → c .before .before .before .before .before .before .header-length .result + 8 ≤ length (now (c .before .before .before .before .before .before .before .before .before .args .bytes))
+udp c =
+    let start = c .before .before .before .before .before .before in
+    rw (start .header-length .ensures .0)
+    (udp-there _ (start .before .before .before .pre .1) (sym (c .before .before .is-later .ensures) ∙ c .before .if1 .left) (c .match .keys2))
+
+shared-slice-read-header-length : tie.Need-shared-slice-read-header-length
+shared-slice-read-header-length c = search needs
+
+header-length-requires : tie.Need-header-length-requires
+header-length-requires c κs = search needs
+
+shared-slice-read-protocol : tie.Need-shared-slice-read-protocol
+shared-slice-read-protocol c = search needs
+
+shared-slice-read-is-later : tie.Need-shared-slice-read-is-later
+shared-slice-read-is-later c = search needs
+
+shared-slice-read-is-later-2 : tie.Need-shared-slice-read-is-later-2
+shared-slice-read-is-later-2 c = search needs
+
+is-later-requires : tie.Need-is-later-requires
+is-later-requires c κs = search needs
+
+returns : tie.Need-returns
+unfolding transportOf
+returns c = rw (← (c .before .is-later .ensures), c .if1 .taken)
+
+add-of-flags : tie.Need-add-of-flags
+add-of-flags c = search needs
+
+shared-slice-read-of-flags : tie.Need-shared-slice-read-of-flags
+shared-slice-read-of-flags c = omega (arith, tcp (c .before))
+
+of-flags-requires : tie.Need-of-flags-requires
+of-flags-requires c κs = search needs
+
+with-ports-requires : tie.Need-with-ports-requires
+with-ports-requires c κs = omega (arith, tcp (c .before .before), c .before .before .before .before .before .before .before .before .header-length .ensures)
+
+with-ports-requires-2 : tie.Need-with-ports-requires-2
+with-ports-requires-2 c κs = omega (arith, udp c, c .before .before .before .before .before .before .header-length .ensures)
+
+returns-2 : tie.Need-returns-2
+unfolding transportOf
+returns-2 c = rw (← (c .before .before .before .before .before .is-later .ensures), c .before .before .before .before .if1 .left, c .before .before .before .match .keys1, ← (c .before .before .before .before .before .before .before .before .before .header-length .ensures .0), ← (c .before .of-flags .ensures)) (c .with-ports .ensures)
+
+returns-3 : tie.Need-returns-3
+unfolding transportOf
+returns-3 c = rw (← (c .before .before .before .is-later .ensures), c .before .before .if1 .left, c .before .match .keys2, ← (c .before .before .before .before .before .before .before .header-length .ensures .0)) (c .with-ports2 .ensures)
+
+returns-4 : tie.Need-returns-4
+unfolding transportOf
+returns-4 c =
+    let r = c .match .rest in
+    rw (← (c .before .before .is-later .ensures), c .before .if1 .left, no-key (6 ∷ []) _ (r .0 .1), no-key (17 ∷ []) _ (r .1))
+
+pub transport-of-spec : {M : Type 1} → statement M
+transport-of-spec =
+    tie.close
+    (tie.spec
+    shared-slice-read-header-length
+    header-length-requires
+    shared-slice-read-protocol
+    shared-slice-read-is-later
+    shared-slice-read-is-later-2
+    is-later-requires
+    returns
+    add-of-flags
+    shared-slice-read-of-flags
+    of-flags-requires
+    with-ports-requires
+    with-ports-requires-2
+    returns-2
+    returns-3
+    returns-4)

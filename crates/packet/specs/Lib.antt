@@ -1,0 +1,3 @@
+-- What a packet's headers say.
+pub mod Kinds
+pub mod Header

@@ -1,0 +1,24 @@
+// The kinds of packet.
+ghost use mathlib.Core.Path.{_≡_};
+ghost use Rattle.packet.specs.Kinds.{flagNumber, tcpKind};
+
+pub enum Kind {
+    Udp,
+    Opening,
+    SynAck,
+    Closing,
+    Plain,
+}
+
+// The kind of a TCP packet. FIN, SYN, RST and ACK make a number; the other four flags are left out.
+pub fn of_flags(flags: u8) -> Kind
+    ensures { λ r. ⌜ r ≡ tcpKind (flagNumber flags) ⌝ }
+{
+    let number = flags % 8 + flags / 16 % 2 * 16;
+    match number {
+        2 => Kind::Opening,
+        18 => Kind::SynAck,
+        1 | 4 | 17 | 20 => Kind::Closing,
+        _ => Kind::Plain,
+    }
+}

@@ -1,0 +1,2 @@
+-- What the promises are stated with.
+pub mod Bench
