@@ -7,7 +7,7 @@ use Prim.Native.Nat.{ℕ, zero, suc, _+_, _*_, _/_, _%_, min}
 use lib.Dec.{eqb, ltb}
 use lib.ListN.{length, getD}
 use Rattle.laws.specs.Choice.{among}
-use Rattle.words.specs.Words.{ofTwo, twoAt, fourAt}
+use Rattle.words.specs.Words.{twoAt, fourAt}
 use Rattle.packet.specs.declared.kinds.Kind.{Kind}
 use Rattle.packet.specs.declared.kinds.Kind.the-variants.{Udp, Plain}
 use Rattle.packet.specs.declared.Transport.{Transport}
@@ -31,11 +31,8 @@ abbrev pub totalLength : List ℕ → ℕ
 totalLength b = twoAt b 2
 
 -- the fragment offset is the low 13 bits of its two bytes
-abbrev pub isLater : ℕ → ℕ → Bool
-isLater high low = ltb 0 (ofTwo high low % 8192)
-
 abbrev pub later : List ℕ → Bool
-later b = isLater (getD b 6 0) (getD b 7 0)
+later b = ltb 0 (twoAt b 6 % 8192)
 
 abbrev pub protocol : List ℕ → ℕ
 protocol b = getD b 9 0
@@ -71,13 +68,16 @@ transport source destination kind = record { «source_port» = source; «destina
 abbrev pub withPorts : List ℕ → ℕ → Kind → Transport
 withPorts b start kind = transport (twoAt b start) (twoAt b (start + 2)) kind
 
+abbrev pub withoutPorts : Transport
+withoutPorts = transport 0 0 Plain
+
 -- "Other protocols are plain. A fragment with offset above 0 is plain and has port 0." The flags are TCP's byte 13.
 unfoldable pub transportOf : List ℕ → Transport
 transportOf b =
-    cond (later b) (transport 0 0 Plain)
+    cond (later b) withoutPorts
     (cond (among (protocol b) (6 ∷ [])) (withPorts b (headerLength b) (tcpKind (flagNumber (getD b (headerLength b + 13) 0))))
     (cond (among (protocol b) (17 ∷ [])) (withPorts b (headerLength b) Udp)
-    (transport 0 0 Plain)))
+    withoutPorts))
 
 unfoldable pub headerOf : List ℕ → Header
 headerOf b =

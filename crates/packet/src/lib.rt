@@ -2,7 +2,7 @@
 ghost use mathlib.Core.Path.{_≡_};
 ghost use Prim.Native.Nat.{_+_, _*_, _%_, _≤_, min};
 ghost use lib.ListN.{length};
-ghost use Rattle.packet.specs.Header.{isLater, needed, headerRefusal, withPorts, transportOf, headerOf, readOf, portOf};
+ghost use Rattle.packet.specs.Header.{later, needed, headerRefusal, withPorts, withoutPorts, transportOf, headerOf, readOf, portOf};
 
 pub mod kinds;
 
@@ -37,11 +37,12 @@ fn header_length(first: u8) -> usize
     (first % 16) as usize * 4
 }
 
-// Whether the fragment offset, the low 13 bits of its two bytes, is above 0.
-fn is_later(high: u8, low: u8) -> bool
-    ensures { λ r. ⌜ r ≡ isLater high low ⌝ }
+// Whether a packet is a later fragment: its offset, the low 13 bits of two bytes, is above 0.
+fn is_later(bytes: &[u8]) -> bool
+    requires { ⌜ 20 ≤ length (now bytes) ⌝ }
+    ensures { λ r. ⌜ r ≡ later (now (bytes .entry)) ⌝ }
 {
-    0 < words::two(high, low) % 8192
+    0 < words::two_at(bytes, 6) % 8192
 }
 
 // How many bytes a packet must have after its IP header.
@@ -71,19 +72,31 @@ fn refusal(bytes: &[u8]) -> u8
     if bytes.len() < 20 {
         return 5;
     }
-    let start = header_length(bytes[0]);
-    let total = words::two(bytes[2], bytes[3]) as usize;
-    if ((bytes[0] / 16 != 4) | (bytes[0] % 16 < 5)) | (total < start) {
+    let first = bytes[0];
+    let start = header_length(first);
+    let total = words::two_at(bytes, 2) as usize;
+    if ((first / 16 != 4) | (first % 16 < 5)) | (total < start) {
         return 6;
     }
     if bytes.len() < start {
         return 5;
     }
-    let after = needed_after(bytes[9], is_later(bytes[6], bytes[7]));
+    let after = needed_after(bytes[9], is_later(bytes));
     if smaller(bytes.len(), total) < start + after {
         return 5;
     }
     0
+}
+
+// Plain, with no ports.
+fn portless() -> Transport
+    ensures { λ r. ⌜ r ≡ withoutPorts ⌝ }
+{
+    Transport {
+        source_port: 0,
+        destination_port: 0,
+        kind: Kind::Plain,
+    }
 }
 
 // Two ports, which stand first after the IP header, and a kind.
@@ -92,8 +105,8 @@ fn with_ports(bytes: &[u8], start: usize, kind: Kind) -> Transport
     ensures { λ r. ⌜ r ≡ withPorts (now (bytes .entry)) start kind ⌝ }
 {
     Transport {
-        source_port: words::two(bytes[start], bytes[start + 1]),
-        destination_port: words::two(bytes[start + 2], bytes[start + 3]),
+        source_port: words::two_at(bytes, start),
+        destination_port: words::two_at(bytes, start + 2),
         kind,
     }
 }
@@ -105,21 +118,13 @@ fn transport_of(bytes: &[u8]) -> Transport
 {
     let start = header_length(bytes[0]);
     let protocol = bytes[9];
-    if is_later(bytes[6], bytes[7]) {
-        return Transport {
-            source_port: 0,
-            destination_port: 0,
-            kind: Kind::Plain,
-        };
+    if is_later(bytes) {
+        return portless();
     }
     match protocol {
         6 => with_ports(bytes, start, kinds::of_flags(bytes[start + 13])),
         17 => with_ports(bytes, start, Kind::Udp),
-        _ => Transport {
-            source_port: 0,
-            destination_port: 0,
-            kind: Kind::Plain,
-        },
+        _ => portless(),
     }
 }
 
@@ -129,10 +134,10 @@ fn header_of(bytes: &[u8]) -> Header
     ensures { λ r. ⌜ r ≡ headerOf (now (bytes .entry)) ⌝ }
 {
     Header {
-        source: words::four(bytes[12], bytes[13], bytes[14], bytes[15]),
-        destination: words::four(bytes[16], bytes[17], bytes[18], bytes[19]),
+        source: words::four_at(bytes, 12),
+        destination: words::four_at(bytes, 16),
         protocol: bytes[9],
-        later: is_later(bytes[6], bytes[7]),
+        later: is_later(bytes),
         transport: transport_of(bytes),
     }
 }

@@ -1,5 +1,4 @@
--- What is proved of the permutation and of what it places.
+-- What is proved of the permutation beyond the contracts.
 pub mod Nibbles
 pub mod Tables
 pub mod Inverse
-pub mod Places

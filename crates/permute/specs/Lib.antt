@@ -1,3 +1,2 @@
--- What the permutation is, and what it places.
+-- What the permutation is.
 pub mod Permutation
-pub mod Places

@@ -1,9 +1,7 @@
-// The address permutation E and its inverse, and what they place: the slot of a connection, the line and tag of an address, and the
-// way back from line and tag.
+// The address permutation E, and its inverse.
 ghost use mathlib.Core.Path.{_≡_};
 ghost use Prim.Native.Nat.{_<_};
 ghost use Rattle.permute.specs.Permutation.{at, Nibbles, boxes, inverses, nibbles, left11, right11, round, unround, E, D};
-ghost use Rattle.permute.specs.Places.{slotOf, placeOf, addressOf};
 
 // S-box r stands in row r. The name of a constant table makes a copy of it, so it is named once for a run of rounds, and lent.
 const BOXES: [[u8; 16]; 8] = [
@@ -37,19 +35,23 @@ fn image(row: &[u8; 16], nibble: u32) -> u32
     row[nibble as usize] as u32
 }
 
-// Each of the eight nibbles of a word replaced by what the row has there. The eight terms do not wait for each other.
-fn substituted(row: &[u8; 16], word: u32) -> u32
-    requires { ⌜ Nibbles (now row) ⌝ }
-    ensures { λ r. ⌜ r ≡ nibbles 8 (at (now (row .entry))) word ⌝ }
+// The four nibbles of half a word, each replaced by what the row has there. No term waits for another.
+fn half(row: &[u8; 16], word: u32) -> u32
+    requires { ⌜ (Nibbles (now row)) × (word < 65536) ⌝ }
+    ensures { λ r. ⌜ (r ≡ nibbles 4 (at (now (row .entry))) word) × (r < 65536) ⌝ }
 {
     image(row, word % 16)
         + image(row, word / 16 % 16) * 16
         + image(row, word / 256 % 16) * 256
-        + image(row, word / 4096 % 16) * 4096
-        + image(row, word / 65536 % 16) * 65536
-        + image(row, word / 1048576 % 16) * 1048576
-        + image(row, word / 16777216 % 16) * 16777216
-        + image(row, word / 268435456) * 268435456
+        + image(row, word / 4096) * 4096
+}
+
+// Each of the eight nibbles of a word replaced by what the row has there.
+fn substituted(row: &[u8; 16], word: u32) -> u32
+    requires { ⌜ Nibbles (now row) ⌝ }
+    ensures { λ r. ⌜ r ≡ nibbles 8 (at (now (row .entry))) word ⌝ }
+{
+    half(row, word % 65536) + half(row, word / 65536) * 65536
 }
 
 // A rotation to the left by 11 places, and back.
@@ -117,50 +119,4 @@ pub fn decrypt(keys: &[u32; 8], word: u32) -> u32
     ensures { λ r. ⌜ r ≡ D (now (keys .entry)) word ⌝ }
 {
     backward(&INVERSES, keys, word)
-}
-
-// The slot of a connection among a number of records. Any word may stand in the port's place.
-pub fn slot(keys: &[u32; 8], plant: u32, cell: u32, port: u32, records: u32) -> u32
-    ensures { λ r. ⌜ r ≡ slotOf (now (keys .entry)) plant cell port records ⌝ }
-{
-    let table = BOXES;
-    let pair = forward(&table, keys, forward(&table, keys, plant) ^ cell);
-    let word = forward(&table, keys, pair ^ port);
-    if records == 0 {
-        return word;
-    }
-    word % records
-}
-
-// Where the address table keeps an address: in which line, and under which tag.
-pub struct Place {
-    pub line: u32,
-    pub tag: u32,
-}
-
-// The line and tag of an address among a number of lines.
-pub fn place_of(keys: &[u32; 8], address: u32, lines: u32) -> Place
-    ensures { λ r. ⌜ r ≡ placeOf (now (keys .entry)) address lines ⌝ }
-{
-    let word = encrypt(keys, address);
-    if lines == 0 {
-        return Place { line: word, tag: 0 };
-    }
-    Place {
-        line: word % lines,
-        tag: word / lines,
-    }
-}
-
-// The address that a line and a tag name.
-pub fn address_of(keys: &[u32; 8], place: Place, lines: u32) -> u32
-    ensures { λ r. ⌜ r ≡ addressOf (now (keys .entry)) place lines ⌝ }
-{
-    if lines == 0 {
-        return decrypt(keys, place.line);
-    }
-    let each = lines as u64;
-    let tags = 4294967296 / each;
-    let word = place.tag as u64 % tags * each + place.line as u64;
-    decrypt(keys, (word % 4294967296) as u32)
 }

@@ -1,11 +1,29 @@
 -- The numbered bench examples hold of the definitions: one table, one theorem, computed.
 -- Assumes nothing.
 use mathlib.Core.Path.{_≡_, refl}
-use mathlib.Core.List.{map}
+use mathlib.Core.List.{_∷_, map}
+use lib.ListN.{replicate}
 use Rattle.permute.specs.Permutation.{boxes, nibbles, round, rounds, E}
-use Rattle.permute.specs.Places.{slotOf, placeOf}
-use Rattle.promises.specs.Bench.{table}
+use Rattle.places.specs.Places.{slotOf, placeOf}
+use Rattle.promises.specs.Bench.{zeros, table}
+
+-- the permutation is computed once for each word that the table has, and not again inside slots and lines
+at-zero : E zeros 0 ≡ 0xFFFFFFFF
+unfolding boxes nibbles round rounds E
+at-zero = refl
+
+at-ones : E zeros 0xFFFFFFFF ≡ 0x99999999
+unfolding boxes nibbles round rounds E
+at-ones = refl
+
+at-nines : E zeros 0x99999999 ≡ 0x77777777
+unfolding boxes nibbles round rounds E
+at-nines = refl
+
+at-key-one : E (1 ∷ replicate 7 0) 0xFFFFFFFF ≡ 0xFFFFFFFF
+unfolding boxes nibbles round rounds E
+at-key-one = refl
 
 pub bench : map (λ r. r .given) table ≡ map (λ r. r .said) table
-unfolding table boxes nibbles round rounds E slotOf placeOf
-bench = refl
+unfolding table slotOf placeOf
+bench = simp (at-zero, at-ones, at-nines, at-key-one)

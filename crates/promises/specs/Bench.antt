@@ -5,7 +5,7 @@ use Prim.Native.Nat.{ℕ}
 use lib.IntN.{ℤ, pos}
 use lib.ListN.{replicate}
 use Rattle.permute.specs.Permutation.{E}
-use Rattle.permute.specs.Places.{slotOf, placeOf}
+use Rattle.places.specs.Places.{slotOf, placeOf}
 
 pub record Row : Type 0 where
   pub number : ℕ
@@ -16,7 +16,7 @@ abbrev row : ℕ → List ℤ → List ℤ → Row
 row number given said = record { number = number; given = given; said = said }
 
 -- "Keys zero unless given."
-abbrev zeros : List ℕ
+abbrev pub zeros : List ℕ
 zeros = replicate 8 0
 
 unfoldable pub table : List Row

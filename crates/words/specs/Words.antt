@@ -1,8 +1,10 @@
 -- Numbers made of bytes, "most significant byte first".
 -- Assumes nothing.
+use mathlib.Core.Bool.{cond}
 use mathlib.Core.List.{List}
 use Prim.Native.Nat.{ℕ, _+_, _*_}
-use lib.ListN.{getD}
+use lib.Dec.{leb}
+use lib.ListN.{length, getD}
 
 abbrev pub ofTwo : ℕ → ℕ → ℕ
 ofTwo a b = a * 256 + b
@@ -10,9 +12,13 @@ ofTwo a b = a * 256 + b
 abbrev pub ofFour : ℕ → ℕ → ℕ → ℕ → ℕ
 ofFour a b c d = a * 16777216 + b * 65536 + c * 256 + d
 
--- the numbers of two and of four bytes that stand at i in a list
+-- the numbers of two and of four bytes that stand at a place
 abbrev pub twoAt : List ℕ → ℕ → ℕ
-twoAt l i = ofTwo (getD l i 0) (getD l (i + 1) 0)
+twoAt l at = ofTwo (getD l at 0) (getD l (at + 1) 0)
 
 abbrev pub fourAt : List ℕ → ℕ → ℕ
-fourAt l i = ofFour (getD l i 0) (getD l (i + 1) 0) (getD l (i + 2) 0) (getD l (i + 3) 0)
+fourAt l at = ofFour (getD l at 0) (getD l (at + 1) 0) (getD l (at + 2) 0) (getD l (at + 3) 0)
+
+-- what f makes of the n bytes at a place, and 0 where they are not all there
+unfoldable pub whole : ℕ → (List ℕ → ℕ → ℕ) → List ℕ → ℕ → ℕ
+whole n f l at = cond (leb (at + n) (length l)) (f l at) 0

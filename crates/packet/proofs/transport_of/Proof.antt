@@ -13,18 +13,15 @@ use Rattle.packet.proofs.Order.{tcp-there, udp-there}
 use Rattle.packet.proofs.transport_of.Statement.{statement}
 use Rattle.packet.proofs.transport_of.Tie as tie
 
--- the transport header is there, at a match on TCP and on UDP
-tcp : (c : tie.At-match-keys1)
-    → c .before .before .before .before .before .before .header-length .result + 20 ≤ length (now (c .before .before .before .before .before .before .before .before .before .args .bytes))
+tcp : (c : tie.At-match-keys1) → c .before .before .before .before .header-length .result + 20 ≤ length (now (c .before .before .before .before .before .before .before .args .bytes))
 tcp c =
-    let start = c .before .before .before .before .before .before in
+    let start = c .before .before .before .before in
     rw (start .header-length .ensures .0)
     (tcp-there _ (start .before .before .before .pre .1) (sym (c .before .before .is-later .ensures) ∙ c .before .if1 .left) (c .match .keys1))
 
-udp : (c : tie.At-match-keys2)
-    → c .before .before .before .before .before .before .header-length .result + 8 ≤ length (now (c .before .before .before .before .before .before .before .before .before .args .bytes))
+udp : (c : tie.At-match-keys2) → c .before .before .before .before .header-length .result + 8 ≤ length (now (c .before .before .before .before .before .before .before .args .bytes))
 udp c =
-    let start = c .before .before .before .before .before .before in
+    let start = c .before .before .before .before in
     rw (start .header-length .ensures .0)
     (udp-there _ (start .before .before .before .pre .1) (sym (c .before .before .is-later .ensures) ∙ c .before .if1 .left) (c .match .keys2))
 
@@ -37,18 +34,15 @@ header-length-requires c κs = search needs
 shared-slice-read-protocol : tie.Need-shared-slice-read-protocol
 shared-slice-read-protocol c = search needs
 
-shared-slice-read-is-later : tie.Need-shared-slice-read-is-later
-shared-slice-read-is-later c = search needs
-
-shared-slice-read-is-later-2 : tie.Need-shared-slice-read-is-later-2
-shared-slice-read-is-later-2 c = search needs
-
 is-later-requires : tie.Need-is-later-requires
 is-later-requires c κs = search needs
 
+portless-requires : tie.Need-portless-requires
+portless-requires c κs = search needs
+
 returns : tie.Need-returns
 unfolding transportOf
-returns c = rw (← (c .before .is-later .ensures), c .if1 .taken)
+returns c = rw (← (c .before .before .is-later .ensures), c .before .if1 .taken) (c .portless .ensures)
 
 add-of-flags : tie.Need-add-of-flags
 add-of-flags c = search needs
@@ -60,24 +54,27 @@ of-flags-requires : tie.Need-of-flags-requires
 of-flags-requires c κs = search needs
 
 with-ports-requires : tie.Need-with-ports-requires
-with-ports-requires c κs = omega (arith, tcp (c .before .before), c .before .before .before .before .before .before .before .before .header-length .ensures)
+with-ports-requires c κs = omega (arith, tcp (c .before .before), c .before .before .before .before .before .before .header-length .ensures)
 
 with-ports-requires-2 : tie.Need-with-ports-requires-2
-with-ports-requires-2 c κs = omega (arith, udp c, c .before .before .before .before .before .before .header-length .ensures)
+with-ports-requires-2 c κs = omega (arith, udp c, c .before .before .before .before .header-length .ensures)
+
+portless-requires-2 : tie.Need-portless-requires-2
+portless-requires-2 c κs = search needs
 
 returns-2 : tie.Need-returns-2
 unfolding transportOf
-returns-2 c = rw (← (c .before .before .before .before .before .is-later .ensures), c .before .before .before .before .if1 .left, c .before .before .before .match .keys1, ← (c .before .before .before .before .before .before .before .before .before .header-length .ensures .0), ← (c .before .of-flags .ensures)) (c .with-ports .ensures)
+returns-2 c = rw (← (c .before .before .before .before .before .is-later .ensures), c .before .before .before .before .if1 .left, c .before .before .before .match .keys1, ← (c .before .before .before .before .before .before .before .header-length .ensures .0), ← (c .before .of-flags .ensures)) (c .with-ports .ensures)
 
 returns-3 : tie.Need-returns-3
 unfolding transportOf
-returns-3 c = rw (← (c .before .before .before .is-later .ensures), c .before .before .if1 .left, c .before .match .keys2, ← (c .before .before .before .before .before .before .before .header-length .ensures .0)) (c .with-ports2 .ensures)
+returns-3 c = rw (← (c .before .before .before .is-later .ensures), c .before .before .if1 .left, c .before .match .keys2, ← (c .before .before .before .before .before .header-length .ensures .0)) (c .with-ports2 .ensures)
 
 returns-4 : tie.Need-returns-4
 unfolding transportOf
 returns-4 c =
-    let r = c .match .rest in
-    rw (← (c .before .before .is-later .ensures), c .before .if1 .left, no-key (6 ∷ []) _ (r .0 .1), no-key (17 ∷ []) _ (r .1))
+    let r = c .before .match .rest in
+    rw (← (c .before .before .before .is-later .ensures), c .before .before .if1 .left, no-key (6 ∷ []) _ (r .0 .1), no-key (17 ∷ []) _ (r .1)) (c .portless2 .ensures)
 
 pub transport-of-spec : {M : Type 1} → statement M
 transport-of-spec =
@@ -86,15 +83,15 @@ transport-of-spec =
     shared-slice-read-header-length
     header-length-requires
     shared-slice-read-protocol
-    shared-slice-read-is-later
-    shared-slice-read-is-later-2
     is-later-requires
+    portless-requires
     returns
     add-of-flags
     shared-slice-read-of-flags
     of-flags-requires
     with-ports-requires
     with-ports-requires-2
+    portless-requires-2
     returns-2
     returns-3
     returns-4)

@@ -1,4 +1,4 @@
--- `permute::address_of` meets its contract. The tag counts below the number of tags, so the word is too small to wrap.
+-- `places::address_of` meets its contract. The tag counts below the number of tags, so the word is too small to wrap.
 -- Assumes nothing.
 use mathlib.Core.Path.{_≡_}
 use Prim.Native.Nat.{ℕ, _*_, _/_, _%_, _^_, _≤_, _<_}
@@ -7,9 +7,9 @@ use native.Mathlib.Omega.{arith}
 use mir.Syntax.{w32}
 use mir.Val.{Fits}
 use borrow.Author.Needs.{needs}
-use Rattle.permute.specs.Places.{addressOf}
-use Rattle.permute.proofs.address_of.Statement.{statement}
-use Rattle.permute.proofs.address_of.Tie as tie
+use Rattle.places.specs.Places.{addressOf}
+use Rattle.places.proofs.address_of.Statement.{statement}
+use Rattle.places.proofs.address_of.Tie as tie
 
 -- there is a tag
 some-tag : (lines : ℕ) → (lines ≡ 0 → ⊥) → lines < 2 ^ 32 → 0 < 2 ^ 32 / lines

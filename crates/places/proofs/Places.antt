@@ -6,10 +6,10 @@ use Prim.Native.Nat.{ℕ, _+_, _*_, _/_, _^_, _-_, _≤_, _<_}
 use native.Mathlib.Nat.{mod-lt, mod-eq-of-lt, div-add-mod', div-lt-iff-lt-mul, div-eq-of-eq-mul-left}
 use native.Mathlib.Omega.{arith}
 use lib.Pow.{pow-add, pow-pos}
-use Rattle.permute.specs.declared.Place.{Place}
+use Rattle.places.specs.declared.Place.{Place}
 use Rattle.permute.specs.Permutation.{E}
-use Rattle.permute.specs.Places.{slotOf, placeOf, addressOf}
+use Rattle.places.specs.Places.{slotOf, placeOf, addressOf}
 use Rattle.permute.proofs.Inverse.{Keys, D-of-E, E-lt}
 
 -- 2 ^ a lines divide the words evenly, into 2 ^ (32 - a) tags
 whole : (a : ℕ) → a ≤ 32 → 2 ^ (32 - a) * 2 ^ a ≡ 2 ^ 32

@@ -4,8 +4,8 @@
 use mathlib.Core.List.{List}
 use Prim.Native.Nat.{ℕ, _+_, _*_, _/_, _%_, _^_}
 use lib.Bits.{bitXor}
-use Rattle.permute.specs.declared.Place.{Place}
+use Rattle.places.specs.declared.Place.{Place}
 use Rattle.permute.specs.Permutation.{E, D}
 
 -- "Slot: E(E(E(plant address) xor cell address) xor port) modulo the number of records."
 unfoldable pub slotOf : List ℕ → ℕ → ℕ → ℕ → ℕ → ℕ

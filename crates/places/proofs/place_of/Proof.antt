@@ -1,10 +1,10 @@
--- `permute::place_of` meets its contract: remainder and quotient, also where there are no lines.
+-- `places::place_of` meets its contract: remainder and quotient, also where there are no lines.
 -- Assumes nothing.
 use native.Mathlib.Nat.{mod-zero, div-zero}
 use borrow.Author.Needs.{needs}
-use Rattle.permute.specs.Places.{placeOf}
-use Rattle.permute.proofs.place_of.Statement.{statement}
-use Rattle.permute.proofs.place_of.Tie as tie
+use Rattle.places.specs.Places.{placeOf}
+use Rattle.places.proofs.place_of.Statement.{statement}
+use Rattle.places.proofs.place_of.Tie as tie
 
 encrypt-requires : tie.Need-encrypt-requires
 encrypt-requires c κs = search needs

@@ -1,0 +1,2 @@
+-- Where things stand in the tables.
+pub mod Places

@@ -1,0 +1,2 @@
+-- What callers' proofs cite of numbers made of bytes.
+pub mod Words
