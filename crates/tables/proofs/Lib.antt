@@ -1,0 +1,2 @@
+-- What is proved of the tables beyond the contracts.
+pub mod Powers

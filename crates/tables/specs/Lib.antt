@@ -1,0 +1,2 @@
+-- What the tables are.
+pub mod Sizes

@@ -1,0 +1,2 @@
+// The gateway's two tables, as their caller lends them.
+pub mod sizes;
