@@ -1,6 +1,5 @@
 // Refusal 2: the sizes that the tables may have.
 ghost use mathlib.Core.Path.{_≡_};
-ghost use mathlib.Core.Bool.{not};
 ghost use Rattle.laws.specs.Choice.{among};
 ghost use Rattle.tables.specs.Sizes.{recordSizes, entrySizes, badSizes};
 
