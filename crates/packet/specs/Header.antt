@@ -2,19 +2,18 @@
 -- RFC 791 (IPv4), RFC 9293 (TCP) and RFC 768 (UDP).
 -- Assumes nothing.
 use mathlib.Core.Bool.{Bool, cond, not, _||_}
-use mathlib.Core.List.{List, [], _∷_}
+use mathlib.Core.List.{List}
 use Prim.Native.Nat.{ℕ, zero, suc, _+_, _*_, _/_, _%_, min}
 use lib.Dec.{eqb, ltb}
 use lib.ListN.{length, getD}
-use Rattle.laws.specs.Choice.{among}
 use Rattle.words.specs.Words.{twoAt, fourAt}
 use Rattle.packet.specs.declared.kinds.Kind.{Kind}
-use Rattle.packet.specs.declared.kinds.Kind.the-variants.{Udp, Plain}
+use Rattle.packet.specs.declared.kinds.Kind.the-variants.{Plain}
 use Rattle.packet.specs.declared.Transport.{Transport}
 use Rattle.packet.specs.declared.Header.{Header}
 use Rattle.packet.specs.declared.Reading.{Reading}
 use Rattle.packet.specs.declared.Reading.the-variants.{Refused, Packet}
-use Rattle.packet.specs.Kinds.{flagNumber, tcpKind}
+use Rattle.packet.specs.Kinds.{udp, tcp, kindOf, ported}
 
 -- ---- the IP header of a packet's bytes
 abbrev pub version : List ℕ → ℕ
@@ -41,10 +40,10 @@ protocol b = getD b 9 0
 abbrev pub usable : List ℕ → ℕ
 usable b = min (length b) (totalLength b)
 
--- "With fragment offset 0, TCP needs 20 usable bytes after the IP header and UDP 8": TCP is protocol 6, UDP is protocol 17
+-- "With fragment offset 0, TCP needs 20 usable bytes after the IP header and UDP 8"
 unfoldable pub needed : ℕ → Bool → ℕ
 needed protocol later =
-    cond later 0 (cond (among protocol (6 ∷ [])) 20 (cond (among protocol (17 ∷ [])) 8 0))
+    cond later 0 (cond (eqb protocol tcp) 20 (cond (eqb protocol udp) 8 0))
 
 -- 6: "the IP version isn't 4, header length below 5 words, or total length below header length"
 abbrev pub wrong : List ℕ → Bool
@@ -61,23 +60,21 @@ headerRefusal b =
     0)))
 
 -- ---- what is read
-abbrev pub transport : ℕ → ℕ → Kind → Transport
-transport source destination kind = record { «source_port» = source; «destination_port» = destination; kind = kind }
+-- TCP's flags are the byte 13 after the IP header
+abbrev pub flags : List ℕ → ℕ
+flags b = getD b (headerLength b + 13) 0
 
--- the ports stand first after the IP header, which is so long
-abbrev pub withPorts : List ℕ → ℕ → Kind → Transport
-withPorts b start kind = transport (twoAt b start) (twoAt b (start + 2)) kind
+-- the source port stands first after the IP header, and the destination port two bytes on
+abbrev pub portAt : List ℕ → ℕ → ℕ
+portAt b place = cond (ported (protocol b) (later b)) (twoAt b place) 0
 
-abbrev pub withoutPorts : Transport
-withoutPorts = transport 0 0 Plain
-
--- "Other protocols are plain. A fragment with offset above 0 is plain and has port 0." The flags are TCP's byte 13.
 unfoldable pub transportOf : List ℕ → Transport
 transportOf b =
-    cond (later b) withoutPorts
-    (cond (among (protocol b) (6 ∷ [])) (withPorts b (headerLength b) (tcpKind (flagNumber (getD b (headerLength b + 13) 0))))
-    (cond (among (protocol b) (17 ∷ [])) (withPorts b (headerLength b) Udp)
-    withoutPorts))
+    record {
+      «source_port» = portAt b (headerLength b);
+      «destination_port» = portAt b (headerLength b + 2);
+      kind = kindOf (protocol b) (later b) (flags b);
+    }
 
 unfoldable pub headerOf : List ℕ → Header
 headerOf b =
@@ -91,7 +88,9 @@ answered (suc n) h = Refused (suc n)
 unfoldable pub readOf : List ℕ → Reading
 readOf b = answered (headerRefusal b) (headerOf b)
 
--- "The port is the plant end's, for TCP; otherwise 0."
-abbrev pub portOf : Header → Bool → ℕ
-portOf h fromPlant =
-    cond (among (h .protocol) (6 ∷ [])) (cond fromPlant (h .transport .«source_port») (h .transport .«destination_port»)) 0
+-- ---- the two forms of `transportOf` that the code's own steps answer: with ports that stand at a place, and without
+abbrev pub withPorts : List ℕ → ℕ → Kind → Transport
+withPorts b start kind = record { «source_port» = twoAt b start; «destination_port» = twoAt b (start + 2); kind = kind }
+
+abbrev pub withoutPorts : Transport
+withoutPorts = record { «source_port» = 0; «destination_port» = 0; kind = Plain }

@@ -1,13 +1,22 @@
 -- Document 01, "Kinds of packet".
 -- Assumes nothing.
-use mathlib.Core.Bool.{cond}
+use mathlib.Core.Bool.{Bool, cond, not, _&&_, _||_}
 use mathlib.Core.List.{[], _∷_}
 use Prim.Native.Nat.{ℕ, _+_, _*_, _/_, _%_}
+use lib.Dec.{eqb}
 use Rattle.laws.specs.Choice.{among}
 use Rattle.packet.specs.declared.kinds.Kind.{Kind}
-use Rattle.packet.specs.declared.kinds.Kind.the-variants.{Opening, SynAck, Closing, Plain}
+use Rattle.packet.specs.declared.kinds.Kind.the-variants.{Udp, Opening, SynAck, Closing, Plain}
+use Rattle.packet.specs.declared.Header.{Header}
 
--- "TCP .. flags are FIN 1, SYN 2, RST 4, ACK 16; PSH, URG, ECE and CWR are ignored": what is left of the flags' byte
+-- "UDP is protocol 17. TCP is protocol 6"
+abbrev pub udp : ℕ
+udp = 17
+
+abbrev pub tcp : ℕ
+tcp = 6
+
+-- "its flags are FIN 1, SYN 2, RST 4, ACK 16; PSH, URG, ECE and CWR are ignored": the number that the four make of the flags' byte
 abbrev pub flagNumber : ℕ → ℕ
 flagNumber flags = flags % 8 + flags / 16 % 2 * 16
 
@@ -18,3 +27,17 @@ tcpKind n =
     (cond (among n (18 ∷ [])) SynAck
     (cond (among n (1 ∷ 4 ∷ 17 ∷ 20 ∷ [])) Closing
     Plain))
+
+-- "Other protocols are plain. A fragment with offset above 0 is plain", which `later` says
+unfoldable pub kindOf : ℕ → Bool → ℕ → Kind
+kindOf protocol later flags =
+    cond later Plain (cond (eqb protocol tcp) (tcpKind (flagNumber flags)) (cond (eqb protocol udp) Udp Plain))
+
+-- "and has port 0": the packets that have ports
+abbrev pub ported : ℕ → Bool → Bool
+ported protocol later = not later && (eqb protocol tcp || eqb protocol udp)
+
+-- "The port is the plant end's, for TCP; otherwise 0."
+abbrev pub portOf : Header → Bool → ℕ
+portOf h fromPlant =
+    cond (eqb (h .protocol) tcp) (cond fromPlant (h .transport .«source_port») (h .transport .«destination_port»)) 0

@@ -2,7 +2,8 @@
 ghost use mathlib.Core.Path.{_≡_};
 ghost use Prim.Native.Nat.{_+_, _*_, _%_, _≤_, min};
 ghost use lib.ListN.{length};
-ghost use Rattle.packet.specs.Header.{later, needed, headerRefusal, withPorts, withoutPorts, transportOf, headerOf, readOf, portOf};
+ghost use Rattle.packet.specs.Header.{later, needed, headerRefusal, withPorts, withoutPorts, transportOf, headerOf, readOf};
+ghost use Rattle.packet.specs.Kinds.{portOf};
 
 pub mod kinds;
 

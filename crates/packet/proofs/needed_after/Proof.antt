@@ -1,8 +1,7 @@
 -- `packet::needed_after` meets its contract: each arm is the definition's case.
 -- Assumes nothing.
-use mathlib.Core.List.{[], _∷_}
+use borrow.Author.Tests.{ne-eqb}
 use borrow.Author.Needs.{needs}
-use Rattle.laws.proofs.Arms.{no-key}
 use Rattle.packet.specs.Header.{needed}
 use Rattle.packet.proofs.needed_after.Statement.{statement}
 use Rattle.packet.proofs.needed_after.Tie as tie
@@ -23,7 +22,7 @@ returns-4 : tie.Need-returns-4
 unfolding needed
 returns-4 c =
     let r = c .match .rest in
-    (rw (c .before .if1 .left, no-key (6 ∷ []) _ (r .0 .1), no-key (17 ∷ []) _ (r .1)), search needs)
+    (rw (c .before .if1 .left, ne-eqb _ 6 (r .0 .1), ne-eqb _ 17 (r .1)), search needs)
 
 pub needed-after-spec : {M : Type 1} → statement M
 needed-after-spec = tie.close (tie.spec returns returns-2 returns-3 returns-4)

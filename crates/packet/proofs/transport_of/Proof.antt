@@ -1,13 +1,13 @@
 -- `packet::transport_of` meets its contract: each arm is the definition's case, and the bytes that it reads are there.
 -- Assumes nothing.
 use mathlib.Core.Path.{sym, _∙_}
-use mathlib.Core.List.{[], _∷_}
 use Prim.Native.Nat.{_+_, _≤_}
 use native.Mathlib.Omega.{arith}
 use lib.ListN.{length}
 use denote.Ref.{now}
+use borrow.Author.Tests.{ne-eqb}
 use borrow.Author.Needs.{needs}
-use Rattle.laws.proofs.Arms.{no-key}
+use Rattle.packet.specs.Kinds.{kindOf}
 use Rattle.packet.specs.Header.{transportOf}
 use Rattle.packet.proofs.Order.{tcp-there, udp-there}
 use Rattle.packet.proofs.transport_of.Statement.{statement}
@@ -41,7 +41,7 @@ portless-requires : tie.Need-portless-requires
 portless-requires c κs = search needs
 
 returns : tie.Need-returns
-unfolding transportOf
+unfolding transportOf kindOf
 returns c = rw (← (c .before .before .is-later .ensures), c .before .if1 .taken) (c .portless .ensures)
 
 add-of-flags : tie.Need-add-of-flags
@@ -63,18 +63,18 @@ portless-requires-2 : tie.Need-portless-requires-2
 portless-requires-2 c κs = search needs
 
 returns-2 : tie.Need-returns-2
-unfolding transportOf
+unfolding transportOf kindOf
 returns-2 c = rw (← (c .before .before .before .before .before .is-later .ensures), c .before .before .before .before .if1 .left, c .before .before .before .match .keys1, ← (c .before .before .before .before .before .before .before .header-length .ensures .0), ← (c .before .of-flags .ensures)) (c .with-ports .ensures)
 
 returns-3 : tie.Need-returns-3
-unfolding transportOf
+unfolding transportOf kindOf
 returns-3 c = rw (← (c .before .before .before .is-later .ensures), c .before .before .if1 .left, c .before .match .keys2, ← (c .before .before .before .before .before .header-length .ensures .0)) (c .with-ports2 .ensures)
 
 returns-4 : tie.Need-returns-4
-unfolding transportOf
+unfolding transportOf kindOf
 returns-4 c =
     let r = c .before .match .rest in
-    rw (← (c .before .before .before .is-later .ensures), c .before .before .if1 .left, no-key (6 ∷ []) _ (r .0 .1), no-key (17 ∷ []) _ (r .1)) (c .portless2 .ensures)
+    rw (← (c .before .before .before .is-later .ensures), c .before .before .if1 .left, ne-eqb _ 6 (r .0 .1), ne-eqb _ 17 (r .1)) (c .portless2 .ensures)
 
 pub transport-of-spec : {M : Type 1} → statement M
 transport-of-spec =
