@@ -68,14 +68,14 @@ fn rotated_right(word: u32) -> u32
 }
 
 // One round, on the row and the key that are its own; and one round undone.
-fn turned(row: &[u8; 16], key: u32, word: u32) -> u32
+fn one_round(row: &[u8; 16], key: u32, word: u32) -> u32
     requires { ⌜ Nibbles (now row) ⌝ }
     ensures { λ r. ⌜ r ≡ round (at (now (row .entry))) key word ⌝ }
 {
     rotated_left(substituted(row, std::num::wrapping_add_u32(word, key)))
 }
 
-fn turned_back(row: &[u8; 16], key: u32, word: u32) -> u32
+fn one_round_back(row: &[u8; 16], key: u32, word: u32) -> u32
     requires { ⌜ Nibbles (now row) ⌝ }
     ensures { λ r. ⌜ r ≡ unround (at (now (row .entry))) key word ⌝ }
 {
@@ -89,7 +89,7 @@ fn forward(table: &[[u8; 16]; 8], keys: &[u32; 8], word: u32) -> u32
 {
     let mut y = word;
     for r in 0..8usize {
-        y = turned(&table[r], keys[r], y);
+        y = one_round(&table[r], keys[r], y);
     }
     y
 }
@@ -102,7 +102,7 @@ fn backward(table: &[[u8; 16]; 8], keys: &[u32; 8], word: u32) -> u32
     let mut r = 8usize;
     while 0 < r {
         r -= 1;
-        y = turned_back(&table[r], keys[r], y);
+        y = one_round_back(&table[r], keys[r], y);
     }
     y
 }

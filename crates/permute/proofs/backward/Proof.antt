@@ -22,20 +22,20 @@ loop-holds c = (search needs, refl)
 sub-r : tie.Need-sub-r Inv-loop μ-loop
 sub-r c = search needs
 
-mul-turned-back : tie.Need-mul-turned-back Inv-loop μ-loop
-mul-turned-back c = search needs
+mul-one-round-back : tie.Need-mul-one-round-back Inv-loop μ-loop
+mul-one-round-back c = search needs
 
-index-1-turned-back : tie.Need-index-1-turned-back Inv-loop μ-loop
-index-1-turned-back c = search needs
+index-1-one-round-back : tie.Need-index-1-one-round-back Inv-loop μ-loop
+index-1-one-round-back c = search needs
 
-mul-turned-back-2 : tie.Need-mul-turned-back-2 Inv-loop μ-loop
-mul-turned-back-2 c = search needs
+mul-one-round-back-2 : tie.Need-mul-one-round-back-2 Inv-loop μ-loop
+mul-one-round-back-2 c = search needs
 
-element-copy-out-turned-back : tie.Need-element-copy-out-turned-back Inv-loop μ-loop
-element-copy-out-turned-back c = search needs
+element-copy-out-one-round-back : tie.Need-element-copy-out-one-round-back Inv-loop μ-loop
+element-copy-out-one-round-back c = search needs
 
-turned-back-requires : tie.Need-turned-back-requires Inv-loop μ-loop
-turned-back-requires c κs =
+one-round-back-requires : tie.Need-one-round-back-requires Inv-loop μ-loop
+one-round-back-requires c κs =
     let w = c .before .before in
     rw (w .before .before .pre) (inverses-small (w .before .loop .r - 1) (omega arith))
 
@@ -49,7 +49,7 @@ loop-again c =
     let r = w .before .loop .r in
     let e : r ≡ suc (r - 1) = omega arith in
     let done = rw e at (w .before .loop .inv .1) in
-    (search needs, rw (c .turned-back .ensures, w .before .before .pre) done)
+    (search needs, rw (c .one-round-back .ensures, w .before .before .pre) done)
 
 returns : tie.Need-returns Inv-loop μ-loop
 unfolding unrounds
@@ -65,11 +65,11 @@ backward-spec =
     μ-loop
     loop-holds
     sub-r
-    mul-turned-back
-    index-1-turned-back
-    mul-turned-back-2
-    element-copy-out-turned-back
-    turned-back-requires
+    mul-one-round-back
+    index-1-one-round-back
+    mul-one-round-back-2
+    element-copy-out-one-round-back
+    one-round-back-requires
     loop-less
     loop-again
     returns)

@@ -20,20 +20,20 @@ loop-holds : tie.Need-loop-holds Inv-loop μ-loop
 unfolding rounds
 loop-holds c = (search needs, refl)
 
-mul-turned : tie.Need-mul-turned Inv-loop μ-loop
-mul-turned c = search needs
+mul-one-round : tie.Need-mul-one-round Inv-loop μ-loop
+mul-one-round c = search needs
 
-index-1-turned : tie.Need-index-1-turned Inv-loop μ-loop
-index-1-turned c = search needs
+index-1-one-round : tie.Need-index-1-one-round Inv-loop μ-loop
+index-1-one-round c = search needs
 
-mul-turned-2 : tie.Need-mul-turned-2 Inv-loop μ-loop
-mul-turned-2 c = search needs
+mul-one-round-2 : tie.Need-mul-one-round-2 Inv-loop μ-loop
+mul-one-round-2 c = search needs
 
-element-copy-out-turned : tie.Need-element-copy-out-turned Inv-loop μ-loop
-element-copy-out-turned c = search needs
+element-copy-out-one-round : tie.Need-element-copy-out-one-round Inv-loop μ-loop
+element-copy-out-one-round c = search needs
 
-turned-requires : tie.Need-turned-requires Inv-loop μ-loop
-turned-requires c κs =
+one-round-requires : tie.Need-one-round-requires Inv-loop μ-loop
+one-round-requires c κs =
     let w = c .before .before in
     rw (w .before .before .pre) (boxes-small (w .before .loop .r) (w .loop-test .taken))
 
@@ -47,7 +47,7 @@ loop-again : tie.Need-loop-again Inv-loop μ-loop
 unfolding rounds
 loop-again c =
     let w = c .before .before .before in
-    (search needs, rw (add-one, ← (w .before .loop .inv .1), ← (w .before .before .pre)) (c .turned .ensures))
+    (search needs, rw (add-one, ← (w .before .loop .inv .1), ← (w .before .before .pre)) (c .one-round .ensures))
 
 returns : tie.Need-returns Inv-loop μ-loop
 unfolding E
@@ -62,11 +62,11 @@ forward-spec =
     Inv-loop
     μ-loop
     loop-holds
-    mul-turned
-    index-1-turned
-    mul-turned-2
-    element-copy-out-turned
-    turned-requires
+    mul-one-round
+    index-1-one-round
+    mul-one-round-2
+    element-copy-out-one-round
+    one-round-requires
     add-r
     loop-less
     loop-again

@@ -1,12 +1,12 @@
--- `permute::turned_back` meets its contract: the round undone, step by step.
+-- `permute::one_round_back` meets its contract: the round undone, step by step.
 -- Assumes nothing.
 use mathlib.Core.Path.{_≡_}
 use Prim.Native.Nat.{ℕ, _+_, _-_, _%_, _^_, _<_}
 use native.Mathlib.Omega.{arith}
 use borrow.Author.Needs.{needs}
 use Rattle.permute.specs.Permutation.{unround}
-use Rattle.permute.proofs.turned_back.Statement.{statement}
-use Rattle.permute.proofs.turned_back.Tie as tie
+use Rattle.permute.proofs.one_round_back.Statement.{statement}
+use Rattle.permute.proofs.one_round_back.Tie as tie
 
 rotated-right-requires : tie.Need-rotated-right-requires
 rotated-right-requires c κs = search needs
@@ -28,5 +28,5 @@ returns c =
     rw (← (c .before .before .rotated-right .ensures), ← (c .before .substituted .ensures))
     (less _ _ _ (c .wrapping-sub-u32 .ok) (s .fits .key .fits) (c .wrapping-sub-u32 .ensures))
 
-pub turned-back-spec : {M : Type 1} → statement M
-turned-back-spec = tie.close (tie.spec rotated-right-requires substituted-requires wrapping-sub-u32-requires returns)
+pub one-round-back-spec : {M : Type 1} → statement M
+one-round-back-spec = tie.close (tie.spec rotated-right-requires substituted-requires wrapping-sub-u32-requires returns)

@@ -1,9 +1,9 @@
--- `permute::turned` meets its contract: the round, step by step.
+-- `permute::one_round` meets its contract: the round, step by step.
 -- Assumes nothing.
 use borrow.Author.Needs.{needs}
 use Rattle.permute.specs.Permutation.{round}
-use Rattle.permute.proofs.turned.Statement.{statement}
-use Rattle.permute.proofs.turned.Tie as tie
+use Rattle.permute.proofs.one_round.Statement.{statement}
+use Rattle.permute.proofs.one_round.Tie as tie
 
 wrapping-add-u32-requires : tie.Need-wrapping-add-u32-requires
 wrapping-add-u32-requires c κs = search needs
@@ -18,5 +18,5 @@ returns : tie.Need-returns
 unfolding round
 returns c = rw (← (c .before .before .wrapping-add-u32 .ensures), ← (c .before .substituted .ensures)) (c .rotated-left .ensures)
 
-pub turned-spec : {M : Type 1} → statement M
-turned-spec = tie.close (tie.spec wrapping-add-u32-requires substituted-requires rotated-left-requires returns)
+pub one-round-spec : {M : Type 1} → statement M
+one-round-spec = tie.close (tie.spec wrapping-add-u32-requires substituted-requires rotated-left-requires returns)
