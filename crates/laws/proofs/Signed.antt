@@ -1,5 +1,5 @@
 -- A signed number as a difference of two naturals: z is `up z` less `dn z`, one of which is 0. One law for each operation, order
--- and test, each stated in ℕ and linear, so that `omega` finishes what is said in ℤ: `omega (signed, plus a b, known fit)`.
+-- and test, each stated in ℕ and linear, so that `omega` finishes what is said in ℤ: `omega (signed, sum-is a b, known fit)`.
 -- Assumes nothing.
 use mathlib.Core.Path.{_≡_, refl, sym, ap, subst}
 use mathlib.Core.Bool.{Bool, true, false, cond, not}
@@ -117,11 +117,11 @@ sub-law : (a b : ℕ) → up (subℕ a b) + b ≡ dn (subℕ a b) + a
 sub-law a b = cond-ind (ltb a b) (negsuc (b - suc a)) (pos (a - b)) (λ z. up z + b ≡ dn z + a)
     (λ t. omega (arith, ltb→lt)) (λ t. omega (arith, nltb→le))
 
-pub plus : (a b : ℤ) → up (a +ℤ b) + (dn a + dn b) ≡ dn (a +ℤ b) + (up a + up b)
-plus (pos a) (pos b) = omega arith
-plus (pos a) (negsuc b) = omega (arith, sub-law a (suc b))
-plus (negsuc a) (pos b) = omega (arith, sub-law b (suc a))
-plus (negsuc a) (negsuc b) = omega arith
+pub sum-is : (a b : ℤ) → up (a +ℤ b) + (dn a + dn b) ≡ dn (a +ℤ b) + (up a + up b)
+sum-is (pos a) (pos b) = omega arith
+sum-is (pos a) (negsuc b) = omega (arith, sub-law a (suc b))
+sum-is (negsuc a) (pos b) = omega (arith, sub-law b (suc a))
+sum-is (negsuc a) (negsuc b) = omega arith
 
 pub up-neg : (a : ℤ) → up (negℤ a) ≡ dn a
 up-neg (pos zero) = refl
@@ -133,8 +133,8 @@ dn-neg (pos zero) = refl
 dn-neg (pos (suc n)) = refl
 dn-neg (negsuc n) = refl
 
-pub minus : (a b : ℤ) → up (a -ℤ b) + (dn a + up b) ≡ dn (a -ℤ b) + (up a + dn b)
-minus a b = omega (arith, plus a (negℤ b), up-neg b, dn-neg b)
+pub difference-is : (a b : ℤ) → up (a -ℤ b) + (dn a + up b) ≡ dn (a -ℤ b) + (up a + dn b)
+difference-is a b = omega (arith, sum-is a (negℤ b), up-neg b, dn-neg b)
 
 -- ---- ranges and bits
 -- one of the two is 0

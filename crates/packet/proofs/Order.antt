@@ -10,7 +10,7 @@ use borrow.Author.Tests.{lt-ltb, le-ltb}
 use Rattle.laws.proofs.Tests.{Which, below, above, which}
 use Rattle.packet.specs.declared.Header.{Header}
 use Rattle.packet.specs.declared.Reading.the-variants.{Refused, Packet}
-use Rattle.packet.specs.Header.{headerLength, usable, later, protocol, needed, wrong, headerRefusal, headerOf, readOf}
+use Rattle.packet.specs.Header.{headerLength, usable, later, protocol, needed, wrong, headerRefusal, headerOf, answered, readOf, refusalOf}
 
 module _ (b : List ℕ) where
   pub too-short : length b < 20 → 5 ≡ headerRefusal b
@@ -32,9 +32,9 @@ module _ (b : List ℕ) where
         unfolding headerRefusal
         cut-transport h = rw (le-ltb _ _ long, right, le-ltb _ _ whole, lt-ltb _ _ h)
 
-        pub not-refused : headerLength b + needed (protocol b) (later b) ≤ usable b → 0 ≡ headerRefusal b
+        pub accepted : headerLength b + needed (protocol b) (later b) ≤ usable b → 0 ≡ headerRefusal b
         unfolding headerRefusal
-        not-refused h = rw (le-ltb _ _ long, right, le-ltb _ _ whole, le-ltb _ _ h)
+        accepted h = rw (le-ltb _ _ long, right, le-ltb _ _ whole, le-ltb _ _ h)
 
 -- what a packet has that is not refused
 pub record Sound (b : List ℕ) : Type 0 where
@@ -83,3 +83,12 @@ answered-no b (suc n) e ne = rw (← e)
 pub answered-yes : (b : List ℕ) (n : ℕ) (h : Header) → n ≡ headerRefusal b → n ≡ 0 → h ≡ headerOf b → Packet h ≡ readOf b
 unfolding readOf
 answered-yes b n h e z is = rw (← e, z, is)
+
+-- the number that an answer tells is that of the refusal
+told : (n : ℕ) (h : Header) → refusalOf (answered n h) ≡ n
+told zero h = refl
+told (suc n) h = refl
+
+pub number-told : (b : List ℕ) → refusalOf (readOf b) ≡ headerRefusal b
+unfolding readOf
+number-told b = told (headerRefusal b) (headerOf b)

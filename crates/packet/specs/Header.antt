@@ -88,6 +88,11 @@ answered (suc n) h = Refused (suc n)
 unfoldable pub readOf : List ℕ → Reading
 readOf b = answered (headerRefusal b) (headerOf b)
 
+-- the paper's number for each case of the answer: that of the refusal, and 0 for a packet that is not refused
+abbrev pub refusalOf : Reading → ℕ
+refusalOf (Refused n) = n
+refusalOf (Packet h) = 0
+
 -- ---- the two forms of `transportOf` that the code's own steps answer: with ports that stand at a place, and without
 abbrev pub withPorts : List ℕ → ℕ → Kind → Transport
 withPorts b start kind = record { «source_port» = twoAt b start; «destination_port» = twoAt b (start + 2); kind = kind }

@@ -33,11 +33,13 @@ unfoldable pub kindOf : ℕ → Bool → ℕ → Kind
 kindOf protocol later flags =
     cond later Plain (cond (eqb protocol tcp) (tcpKind (flagNumber flags)) (cond (eqb protocol udp) Udp Plain))
 
--- "and has port 0": the packets that have ports
+-- the packets whose two ports are read: UDP's too, though `portOf` gives a slot TCP's alone
 abbrev pub ported : ℕ → Bool → Bool
 ported protocol later = not later && (eqb protocol tcp || eqb protocol udp)
 
--- "The port is the plant end's, for TCP; otherwise 0."
+-- a later fragment "has port 0. The port is the plant end's, for TCP; otherwise 0."
 abbrev pub portOf : Header → Bool → ℕ
 portOf h fromPlant =
-    cond (eqb (h .protocol) tcp) (cond fromPlant (h .transport .«source_port») (h .transport .«destination_port»)) 0
+    cond (h .later) 0
+    (cond (eqb (h .protocol) tcp) (cond fromPlant (h .transport .«source_port») (h .transport .«destination_port»))
+    0)

@@ -16,7 +16,7 @@ pub struct Transport {
     pub kind: Kind,
 }
 
-// What reading finds. `later` says that the packet is a fragment with offset above 0.
+// What reading finds. `later` says that the packet is a later fragment, one with offset above 0.
 pub struct Header {
     pub source: u32,
     pub destination: u32,
@@ -156,10 +156,13 @@ pub fn read(bytes: &[u8]) -> Reading
 }
 
 impl Header {
-    // The port of the plant's end, for TCP; otherwise 0.
+    // The port of the plant's end, for TCP; otherwise 0, and for a later fragment.
     pub fn port(self, from_plant: bool) -> u16
         ensures { λ r. ⌜ r ≡ portOf self «from_plant» ⌝ }
     {
+        if self.later {
+            return 0;
+        }
         if self.protocol != 6 {
             return 0;
         }

@@ -4,9 +4,7 @@ use mathlib.Core.Path.{refl}
 use Prim.Native.Nat.{ℕ, _<_}
 use Rattle.laws.specs.Search.{every}
 use Rattle.laws.proofs.Table.{Undone, undoes, undone}
-use Rattle.permute.specs.Permutation.{box, boxes, inverses, Nibbles}
-use mathlib.Core.List.{[]}
-use lib.ListN.{getD}
+use Rattle.permute.specs.Permutation.{box, boxes, inverses, SmallRow}
 
 pub boxes-undone : (r : ℕ) → r < 8 → Undone 16 (box boxes r) (box inverses r)
 unfolding boxes inverses undoes every
@@ -16,9 +14,9 @@ pub inverses-undone : (r : ℕ) → r < 8 → Undone 16 (box inverses r) (box bo
 unfolding boxes inverses undoes every
 inverses-undone = undone 8 16 (box inverses) (box boxes) refl
 
--- so each row is one of nibbles
-pub boxes-small : (r : ℕ) → r < 8 → Nibbles (getD boxes r [])
-boxes-small r h = record { small = boxes-undone r h .small }
+-- so each row has nibbles
+pub boxes-small : (r : ℕ) → r < 8 → SmallRow boxes r
+boxes-small r h = record { there = h; small = boxes-undone r h .small }
 
-pub inverses-small : (r : ℕ) → r < 8 → Nibbles (getD inverses r [])
-inverses-small r h = record { small = inverses-undone r h .small }
+pub inverses-small : (r : ℕ) → r < 8 → SmallRow inverses r
+inverses-small r h = record { there = h; small = inverses-undone r h .small }

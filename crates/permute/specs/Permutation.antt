@@ -12,9 +12,10 @@ at l n = getD l n 0
 abbrev pub box : List (List ℕ) → ℕ → ℕ → ℕ
 box table r = at (getD table r [])
 
--- a row of nibbles
-pub record Nibbles (row : List ℕ) : Type 0 where
-  pub small : (n : ℕ) → n < 16 → at row n < 16
+-- row r is there, and has a nibble at each nibble
+pub record SmallRow (table : List (List ℕ)) (r : ℕ) : Type 0 where
+  pub there : r < 8
+  pub small : (n : ℕ) → n < 16 → box table r n < 16
 
 unfoldable pub boxes : List (List ℕ)
 boxes =

@@ -1,7 +1,7 @@
 // The address permutation E, and its inverse.
 ghost use mathlib.Core.Path.{_≡_};
 ghost use Prim.Native.Nat.{_<_};
-ghost use Rattle.permute.specs.Permutation.{at, Nibbles, boxes, inverses, nibbles, left11, right11, round, unround, E, D};
+ghost use Rattle.permute.specs.Permutation.{box, SmallRow, boxes, inverses, nibbles, left11, right11, round, unround, E, D};
 
 // S-box r stands in row r. The name of a constant table makes a copy of it, so it is named once for a run of rounds, and lent.
 const BOXES: [[u8; 16]; 8] = [
@@ -27,31 +27,32 @@ const INVERSES: [[u8; 16]; 8] = [
     [3, 0, 6, 13, 9, 14, 15, 8, 5, 12, 11, 7, 10, 1, 4, 2],
 ];
 
-// What a row has at a nibble, which is a nibble too.
-fn image(row: &[u8; 16], nibble: u32) -> u32
-    requires { ⌜ (Nibbles (now row)) × (nibble < 16) ⌝ }
-    ensures { λ r. ⌜ (r ≡ at (now (row .entry)) nibble) × (r < 16) ⌝ }
+// What a table has for a round at a nibble, which is a nibble too.
+fn image(table: &[[u8; 16]; 8], r: usize, nibble: u32) -> u32
+    requires { ⌜ (SmallRow (now table) r) × (nibble < 16) ⌝ }
+    ensures { λ v. ⌜ (v ≡ box (now (table .entry)) r nibble) × (v < 16) ⌝ }
 {
-    row[nibble as usize] as u32
+    let n = nibble as usize;
+    table[r][n] as u32
 }
 
-// The four nibbles of half a word, each replaced by what the row has there. No term waits for another.
-fn half(row: &[u8; 16], word: u32) -> u32
-    requires { ⌜ (Nibbles (now row)) × (word < 65536) ⌝ }
-    ensures { λ r. ⌜ (r ≡ nibbles 4 (at (now (row .entry))) word) × (r < 65536) ⌝ }
+// The four nibbles of half a word, each replaced by what the table has there. No term waits for another.
+fn half(table: &[[u8; 16]; 8], r: usize, word: u32) -> u32
+    requires { ⌜ (SmallRow (now table) r) × (word < 65536) ⌝ }
+    ensures { λ v. ⌜ (v ≡ nibbles 4 (box (now (table .entry)) r) word) × (v < 65536) ⌝ }
 {
-    image(row, word % 16)
-        + image(row, word / 16 % 16) * 16
-        + image(row, word / 256 % 16) * 256
-        + image(row, word / 4096) * 4096
+    image(table, r, word % 16)
+        + image(table, r, word / 16 % 16) * 16
+        + image(table, r, word / 256 % 16) * 256
+        + image(table, r, word / 4096) * 4096
 }
 
-// Each of the eight nibbles of a word replaced by what the row has there.
-fn substituted(row: &[u8; 16], word: u32) -> u32
-    requires { ⌜ Nibbles (now row) ⌝ }
-    ensures { λ r. ⌜ r ≡ nibbles 8 (at (now (row .entry))) word ⌝ }
+// Each of the eight nibbles of a word replaced by what the table has there.
+fn substituted(table: &[[u8; 16]; 8], r: usize, word: u32) -> u32
+    requires { ⌜ SmallRow (now table) r ⌝ }
+    ensures { λ v. ⌜ v ≡ nibbles 8 (box (now (table .entry)) r) word ⌝ }
 {
-    half(row, word % 65536) + half(row, word / 65536) * 65536
+    half(table, r, word % 65536) + half(table, r, word / 65536) * 65536
 }
 
 // A rotation to the left by 11 places, and back.
@@ -67,19 +68,19 @@ fn rotated_right(word: u32) -> u32
     word % 2048 * 2097152 + word / 2048
 }
 
-// One round, on the row and the key that are its own; and one round undone.
-fn one_round(row: &[u8; 16], key: u32, word: u32) -> u32
-    requires { ⌜ Nibbles (now row) ⌝ }
-    ensures { λ r. ⌜ r ≡ round (at (now (row .entry))) key word ⌝ }
+// One round with its key; and one round undone.
+fn one_round(table: &[[u8; 16]; 8], r: usize, key: u32, word: u32) -> u32
+    requires { ⌜ SmallRow (now table) r ⌝ }
+    ensures { λ v. ⌜ v ≡ round (box (now (table .entry)) r) key word ⌝ }
 {
-    rotated_left(substituted(row, std::num::wrapping_add_u32(word, key)))
+    rotated_left(substituted(table, r, std::num::wrapping_add_u32(word, key)))
 }
 
-fn one_round_back(row: &[u8; 16], key: u32, word: u32) -> u32
-    requires { ⌜ Nibbles (now row) ⌝ }
-    ensures { λ r. ⌜ r ≡ unround (at (now (row .entry))) key word ⌝ }
+fn one_round_back(table: &[[u8; 16]; 8], r: usize, key: u32, word: u32) -> u32
+    requires { ⌜ SmallRow (now table) r ⌝ }
+    ensures { λ v. ⌜ v ≡ unround (box (now (table .entry)) r) key word ⌝ }
 {
-    std::num::wrapping_sub_u32(substituted(row, rotated_right(word)), key)
+    std::num::wrapping_sub_u32(substituted(table, r, rotated_right(word)), key)
 }
 
 // The rounds in their order on a lent table of S-boxes, and backward on one of their inverses.
@@ -89,7 +90,7 @@ fn forward(table: &[[u8; 16]; 8], keys: &[u32; 8], word: u32) -> u32
 {
     let mut y = word;
     for r in 0..8usize {
-        y = one_round(&table[r], keys[r], y);
+        y = one_round(table, r, keys[r], y);
     }
     y
 }
@@ -102,7 +103,7 @@ fn backward(table: &[[u8; 16]; 8], keys: &[u32; 8], word: u32) -> u32
     let mut r = 8usize;
     while 0 < r {
         r -= 1;
-        y = one_round_back(&table[r], keys[r], y);
+        y = one_round_back(table, r, keys[r], y);
     }
     y
 }

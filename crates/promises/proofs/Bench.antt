@@ -1,7 +1,7 @@
 -- The numbered bench examples hold of the definitions: one table, one theorem, computed.
 -- Assumes nothing.
 use mathlib.Core.Path.{_≡_, refl}
-use mathlib.Core.List.{_∷_, map}
+use mathlib.Core.List.{[], _∷_, map}
 use lib.ListN.{replicate}
 use Rattle.permute.specs.Permutation.{boxes, nibbles, round, rounds, E}
 use Rattle.places.specs.Places.{slotOf, placeOf}
@@ -24,6 +24,11 @@ at-key-one : E (1 ∷ replicate 7 0) 0xFFFFFFFF ≡ 0xFFFFFFFF
 unfolding boxes nibbles round rounds E
 at-key-one = refl
 
-pub bench : map (λ r. r .given) table ≡ map (λ r. r .said) table
+pub bench : map (λ r. r .computed) table ≡ map (λ r. r .said) table
 unfolding table slotOf placeOf
 bench = simp (at-zero, at-ones, at-nines, at-key-one)
+
+-- and no row is missing
+pub rows : map (λ r. r .number) table ≡ 1 ∷ 2 ∷ 3 ∷ 4 ∷ 5 ∷ 6 ∷ []
+unfolding table
+rows = refl

@@ -9,11 +9,11 @@ use Rattle.places.specs.Places.{slotOf, placeOf}
 
 pub record Row : Type 0 where
   pub number : ℕ
-  pub given : List ℤ
+  pub computed : List ℤ
   pub said : List ℤ
 
 abbrev row : ℕ → List ℤ → List ℤ → Row
-row number given said = record { number = number; given = given; said = said }
+row number computed said = record { number = number; computed = computed; said = said }
 
 -- "Keys zero unless given."
 abbrev pub zeros : List ℕ

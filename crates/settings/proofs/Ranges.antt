@@ -61,6 +61,6 @@ in-range s e =
       dconn = within _ _ _ (or-right (t || f || m) c e);
     }
 
-pub not-refused : (s : Settings) → InRange s → badSettings s ≡ false
+pub accepted : (s : Settings) → InRange s → badSettings s ≡ false
 unfolding badSettings
-not-refused s r = or-no (or-no (or-no (inside (r .threshold)) (insideℤ (r .floor))) (inside (r .dmiss))) (inside (r .dconn))
+accepted s r = or-no (or-no (or-no (inside (r .threshold)) (insideℤ (r .floor))) (inside (r .dmiss))) (inside (r .dconn))

@@ -9,14 +9,15 @@ use lib.ListN.{replicate}
 use Rattle.laws.specs.Signed.{minus}
 use Rattle.settings.specs.declared.Settings.{Settings}
 
--- "Threshold T 1 to 255. Floor Cmin -1,000 to 0. Dmiss 1 to 3,600 seconds. Dconn 1 to 62 minutes."
+-- below the least or above the most of a range
 abbrev pub outside : ℕ → ℕ → ℕ → Bool
 outside least most n = ltb n least || ltb most n
 
 abbrev pub outsideℤ : ℤ → ℤ → ℤ → Bool
 outsideℤ least most z = ltZ z least || ltZ most z
 
--- refusal 1: "a setting is outside its range"; "eight 32-bit round keys, free"
+-- refusal 1, "a setting is outside its range": "Threshold T 1 to 255. Floor Cmin -1,000 to 0. Dmiss 1 to 3,600 seconds. Dconn 1 to 62
+-- minutes. Eight 32-bit round keys, free."
 unfoldable pub badSettings : Settings → Bool
 badSettings s =
     outside 1 255 (s .threshold) || outsideℤ (minus 1000) (pos 0) (s .floor) || outside 1 3600 (s .dmiss) || outside 1 62 (s .dconn)

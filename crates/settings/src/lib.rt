@@ -2,7 +2,7 @@
 ghost use mathlib.Core.Path.{_≡_};
 ghost use Rattle.settings.specs.Settings.{factorySettings, badSettings};
 
-// Each field is wider than its range, so that a value outside it can be given, and is refused.
+// The type of each number is wider than its range, so that a value outside it can be given, and is refused.
 pub struct Settings {
     // T: a cell address is blocked when its count is at least this.
     pub threshold: u16,
@@ -27,7 +27,11 @@ impl Settings {
 
     // The factory settings, with keys all zero.
     pub fn factory() -> Settings
-        ensures { λ r. ⌜ r ≡ factorySettings ⌝ }
+        ensures values { λ r. ⌜ r ≡ factorySettings ⌝ }
+        ensures threshold { λ r. do ⌜ (← ⟦Settings::T⟧ .entry) ≡ r .threshold ⌝ }
+        ensures floor { λ r. do ⌜ (← ⟦Settings::CMIN⟧ .entry) ≡ r .floor ⌝ }
+        ensures dmiss { λ r. do ⌜ (← ⟦Settings::DMISS⟧ .entry) ≡ r .dmiss ⌝ }
+        ensures dconn { λ r. do ⌜ (← ⟦Settings::DCONN⟧ .entry) ≡ r .dconn ⌝ }
     {
         Settings {
             threshold: Self::T,

@@ -1,7 +1,7 @@
 -- "An address belongs to the list with the longest prefix that holds it; at equal length the cell list wins; inside a list the first
 -- such entry": what the definitions compute is just that.
 -- Assumes nothing.
-use mathlib.Core.Path.{_≡_, subst}
+use mathlib.Core.Path.{_≡_, refl, subst}
 use mathlib.Core.Bool.{true, false}
 use mathlib.Core.List.{List}
 use Prim.Native.Nat.{ℕ, zero, suc, _+_, _≤_, _<_}
@@ -120,3 +120,22 @@ belongs cell plant address = first (which (c .rank) (p .rank))
         at Plant (to-plant c p Cell Plant Neither h)
         (some .0, some .1, λ j l e. omega (arith, beyond cell address (c .number) (best-is cell address) j l e, some .2))
     first (above h) = then h (which 0 (c .rank))
+
+-- and it belongs to no other side: so an address is on a side exactly where this says so
+module _ (cell plant : List ℕ) (address : ℕ) where
+  not-both : Belongs cell plant address Cell → Belongs cell plant address Plant → ⊥
+  not-both b c = omega (arith, b .2 (c .0) (c .1 .here) (c .1 .held), c .2 (b .0) (b .1 .here) (b .1 .held))
+
+  same : (s t : Side) → Belongs cell plant address s → Belongs cell plant address t → s ≡ t
+  same Cell Cell b c = refl
+  same Cell Plant b c = absurd (not-both b c)
+  same Cell Neither b c = true-is-not-false (b .1 .held) (c .0 (b .0) (b .1 .here))
+  same Plant Cell b c = absurd (not-both c b)
+  same Plant Plant b c = refl
+  same Plant Neither b c = true-is-not-false (b .1 .held) (c .1 (b .0) (b .1 .here))
+  same Neither Cell b c = true-is-not-false (c .1 .held) (b .0 (c .0) (c .1 .here))
+  same Neither Plant b c = true-is-not-false (c .1 .held) (b .1 (c .0) (c .1 .here))
+  same Neither Neither b c = refl
+
+  pub exactly : (s : Side) → Belongs cell plant address s → sideOf cell plant address ≡ s
+  exactly s b = same (sideOf cell plant address) s (belongs cell plant address) b

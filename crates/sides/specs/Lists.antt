@@ -11,6 +11,8 @@ use Rattle.words.specs.Words.{fourAt}
 use Rattle.sides.specs.declared.Best.{Best}
 use Rattle.sides.specs.declared.Side.{Side}
 use Rattle.sides.specs.declared.Side.the-variants.{Cell, Plant, Neither}
+use Rattle.sides.specs.declared.Direction.{Direction}
+use Rattle.sides.specs.declared.Direction.the-variants.{FromCell, FromPlant, NotOurs}
 
 -- "A side list has entries of five bytes: address, most significant byte first, then prefix length."
 abbrev pub entries : List ℕ → ℕ
@@ -77,3 +79,13 @@ winnerAt cell plant address =
     (past (cell .ptr) (5 * bestIn (cell .now) address .number - 5))
     (past (plant .ptr) (5 * bestIn (plant .now) address .number - 5))
     (past (cell .ptr) 0)
+
+-- "A packet is ours when one end is cell and the other plant."
+abbrev pub directionOf : Side → Side → Direction
+directionOf Cell Cell = NotOurs
+directionOf Cell Plant = FromCell
+directionOf Cell Neither = NotOurs
+directionOf Plant Cell = FromPlant
+directionOf Plant Plant = NotOurs
+directionOf Plant Neither = NotOurs
+directionOf Neither destination = NotOurs

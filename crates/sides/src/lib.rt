@@ -3,12 +3,19 @@
 ghost use mathlib.Core.Path.{_≡_};
 ghost use Prim.Native.Nat.{_+_, _*_, _-_, _<_, _≤_};
 ghost use lib.ListN.{length};
-ghost use Rattle.sides.specs.Lists.{badList, rankAt, bestIn, entryOf, past, winnerOf, winnerAt, sideOf};
+ghost use Rattle.sides.specs.Lists.{badList, rankAt, bestIn, entryOf, past, winnerOf, winnerAt, sideOf, directionOf};
 
 pub enum Side {
     Cell,
     Plant,
     Neither,
+}
+
+// Whose packet it is: ours when one end is cell and the other plant, and then from which of them.
+pub enum Direction {
+    FromCell,
+    FromPlant,
+    NotOurs,
 }
 
 // What a list has for an address: the number, from 1, of the entry that holds it best, and that entry's prefix length plus one. Both
@@ -110,4 +117,23 @@ pub fn side_of(cell: &[u8], plant: &[u8], address: u32) -> Side
         return Side::Cell;
     }
     Side::Neither
+}
+
+// The direction of a packet whose ends are on these sides.
+pub fn direction_of(source: Side, destination: Side) -> Direction
+    ensures { λ r. ⌜ r ≡ directionOf source destination ⌝ }
+{
+    match source {
+        Side::Cell => match destination {
+            Side::Plant => Direction::FromCell,
+            Side::Cell => Direction::NotOurs,
+            Side::Neither => Direction::NotOurs,
+        },
+        Side::Plant => match destination {
+            Side::Cell => Direction::FromPlant,
+            Side::Plant => Direction::NotOurs,
+            Side::Neither => Direction::NotOurs,
+        },
+        Side::Neither => Direction::NotOurs,
+    }
 }

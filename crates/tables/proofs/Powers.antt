@@ -69,9 +69,9 @@ sized records tags counts e =
       alike = sym (eqb-true _ _ (not-false _ (or-right (r || t) (not (eqb tags counts)) e)));
     }
 
-pub not-refused : (records tags counts : ℕ) → Sized records tags counts → badSizes records tags counts ≡ false
+pub accepted : (records tags counts : ℕ) → Sized records tags counts → badSizes records tags counts ≡ false
 unfolding badSizes
-not-refused records tags counts s =
+accepted records tags counts s =
     let p = s .record-count in
     let q = s .line-count in
     let is : tags ≡ 4 * 2 ^ q .exponent = s .four-each ∙ ap (λ (n : ℕ). 4 * n) (q .is) in

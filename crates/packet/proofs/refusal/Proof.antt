@@ -5,7 +5,7 @@ use native.Mathlib.Omega.{arith}
 use borrow.Author.Needs.{needs}
 use Rattle.words.specs.Words.{twoAt}
 use Rattle.words.proofs.Words.{there}
-use Rattle.packet.proofs.Order.{too-short, is-wrong, cut-header, cut-transport, not-refused}
+use Rattle.packet.proofs.Order.{too-short, is-wrong, cut-header, cut-transport, accepted}
 use Rattle.packet.proofs.refusal.Statement.{statement}
 use Rattle.packet.proofs.refusal.Tie as tie
 
@@ -70,7 +70,7 @@ returns-5 c =
     let s = start .header-length .ensures .0 in
     let t = two .two-at .ensures ∙ there 2 twoAt _ _ (omega (arith, start .before .before .if1 .left)) in
     let tested = rw (c .before .smaller .ensures, c .before .before .needed-after .ensures .0, c .before .before .before .is-later .ensures, s, t) at (c .if4 .left) in
-    not-refused _ (start .before .before .if1 .left) (rw (s, t) at (past .before .if2 .left)) (rw s at (past .if3 .left)) tested
+    accepted _ (start .before .before .if1 .left) (rw (s, t) at (past .before .if2 .left)) (rw s at (past .if3 .left)) tested
 
 pub refusal-spec : {M : Type 1} → statement M
 refusal-spec =

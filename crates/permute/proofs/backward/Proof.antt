@@ -25,18 +25,12 @@ sub-r c = search needs
 mul-one-round-back : tie.Need-mul-one-round-back Inv-loop μ-loop
 mul-one-round-back c = search needs
 
-index-1-one-round-back : tie.Need-index-1-one-round-back Inv-loop μ-loop
-index-1-one-round-back c = search needs
-
-mul-one-round-back-2 : tie.Need-mul-one-round-back-2 Inv-loop μ-loop
-mul-one-round-back-2 c = search needs
-
 element-copy-out-one-round-back : tie.Need-element-copy-out-one-round-back Inv-loop μ-loop
 element-copy-out-one-round-back c = search needs
 
 one-round-back-requires : tie.Need-one-round-back-requires Inv-loop μ-loop
 one-round-back-requires c κs =
-    let w = c .before .before in
+    let w = c .before in
     rw (w .before .before .pre) (inverses-small (w .before .loop .r - 1) (omega arith))
 
 loop-less : tie.Need-loop-less Inv-loop μ-loop
@@ -45,7 +39,7 @@ loop-less c = search needs
 loop-again : tie.Need-loop-again Inv-loop μ-loop
 unfolding unrounds
 loop-again c =
-    let w = c .before .before .before in
+    let w = c .before .before in
     let r = w .before .loop .r in
     let e : r ≡ suc (r - 1) = omega arith in
     let done = rw e at (w .before .loop .inv .1) in
@@ -66,8 +60,6 @@ backward-spec =
     loop-holds
     sub-r
     mul-one-round-back
-    index-1-one-round-back
-    mul-one-round-back-2
     element-copy-out-one-round-back
     one-round-back-requires
     loop-less

@@ -23,18 +23,12 @@ loop-holds c = (search needs, refl)
 mul-one-round : tie.Need-mul-one-round Inv-loop μ-loop
 mul-one-round c = search needs
 
-index-1-one-round : tie.Need-index-1-one-round Inv-loop μ-loop
-index-1-one-round c = search needs
-
-mul-one-round-2 : tie.Need-mul-one-round-2 Inv-loop μ-loop
-mul-one-round-2 c = search needs
-
 element-copy-out-one-round : tie.Need-element-copy-out-one-round Inv-loop μ-loop
 element-copy-out-one-round c = search needs
 
 one-round-requires : tie.Need-one-round-requires Inv-loop μ-loop
 one-round-requires c κs =
-    let w = c .before .before in
+    let w = c .before in
     rw (w .before .before .pre) (boxes-small (w .before .loop .r) (w .loop-test .taken))
 
 add-r : tie.Need-add-r Inv-loop μ-loop
@@ -46,7 +40,7 @@ loop-less c = search needs
 loop-again : tie.Need-loop-again Inv-loop μ-loop
 unfolding rounds
 loop-again c =
-    let w = c .before .before .before in
+    let w = c .before .before in
     (search needs, rw (add-one, ← (w .before .loop .inv .1), ← (w .before .before .pre)) (c .one-round .ensures))
 
 returns : tie.Need-returns Inv-loop μ-loop
@@ -63,8 +57,6 @@ forward-spec =
     μ-loop
     loop-holds
     mul-one-round
-    index-1-one-round
-    mul-one-round-2
     element-copy-out-one-round
     one-round-requires
     add-r

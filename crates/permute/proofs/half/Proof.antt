@@ -2,7 +2,7 @@
 -- Assumes nothing.
 use denote.Ref.{now}
 use borrow.Author.Needs.{needs}
-use Rattle.permute.specs.Permutation.{at}
+use Rattle.permute.specs.Permutation.{box}
 use Rattle.permute.proofs.Nibbles.{four}
 use Rattle.permute.proofs.half.Statement.{statement}
 use Rattle.permute.proofs.half.Tie as tie
@@ -42,7 +42,7 @@ returns c =
     let w = c .before .before .before in
     let s = w .before in (
       rw (w .image .ensures .0, c .before .before .image2 .ensures .0, c .before .image3 .ensures .0, c .image4 .ensures .0)
-          (four (at (now (s .args .row))) (s .args .word) (s .pre .1)),
+          (four (box (now (s .args .table)) (s .args .r)) (s .args .word) (s .pre .1)),
       search needs,
     )
 

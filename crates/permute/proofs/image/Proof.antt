@@ -1,12 +1,18 @@
--- `permute::image` meets its contract: what the row has there is a nibble.
+-- `permute::image` meets its contract: what the table has there is a nibble.
 -- Assumes nothing.
 use native.Mathlib.Omega.{arith}
 use borrow.Author.Needs.{needs}
 use Rattle.permute.proofs.image.Statement.{statement}
 use Rattle.permute.proofs.image.Tie as tie
 
-element-copy-out-result : tie.Need-element-copy-out-result
-element-copy-out-result c = search needs
+mul-result : tie.Need-mul-result
+mul-result c = search needs
+
+index-1-result : tie.Need-index-1-result
+index-1-result c = search needs
+
+index-2-result : tie.Need-index-2-result
+index-2-result c = search needs
 
 cast-result : tie.Need-cast-result
 cast-result c =
@@ -19,4 +25,4 @@ returns c =
     (search needs, s .pre .0 .small (s .args .nibble) (s .pre .1))
 
 pub image-spec : {M : Type 1} → statement M
-image-spec = tie.close (tie.spec element-copy-out-result cast-result returns)
+image-spec = tie.close (tie.spec mul-result index-1-result index-2-result cast-result returns)

@@ -19,4 +19,6 @@ unfolding round
 returns c = rw (← (c .before .before .wrapping-add-u32 .ensures), ← (c .before .substituted .ensures)) (c .rotated-left .ensures)
 
 pub one-round-spec : {M : Type 1} → statement M
-one-round-spec = tie.close (tie.spec wrapping-add-u32-requires substituted-requires rotated-left-requires returns)
+one-round-spec =
+    tie.close
+    (tie.spec wrapping-add-u32-requires substituted-requires rotated-left-requires returns)

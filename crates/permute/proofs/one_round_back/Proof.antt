@@ -29,4 +29,6 @@ returns c =
     (less _ _ _ (c .wrapping-sub-u32 .ok) (s .fits .key .fits) (c .wrapping-sub-u32 .ensures))
 
 pub one-round-back-spec : {M : Type 1} → statement M
-one-round-back-spec = tie.close (tie.spec rotated-right-requires substituted-requires wrapping-sub-u32-requires returns)
+one-round-back-spec =
+    tie.close
+    (tie.spec rotated-right-requires substituted-requires wrapping-sub-u32-requires returns)

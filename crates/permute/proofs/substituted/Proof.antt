@@ -2,7 +2,7 @@
 -- Assumes nothing.
 use denote.Ref.{now}
 use borrow.Author.Needs.{needs}
-use Rattle.permute.specs.Permutation.{at}
+use Rattle.permute.specs.Permutation.{box}
 use Rattle.permute.proofs.Nibbles.{halves}
 use Rattle.permute.proofs.substituted.Statement.{statement}
 use Rattle.permute.proofs.substituted.Tie as tie
@@ -22,7 +22,7 @@ add-result c = search needs
 returns : tie.Need-returns
 returns c =
     let s = c .before .before in
-    rw (c .before .half .ensures .0, c .half2 .ensures .0) (halves (at (now (s .args .row))) (s .args .word))
+    rw (c .before .half .ensures .0, c .half2 .ensures .0) (halves (box (now (s .args .table)) (s .args .r)) (s .args .word))
 
 pub substituted-spec : {M : Type 1} → statement M
 substituted-spec = tie.close (tie.spec half-requires half-requires-2 mul-result add-result returns)
