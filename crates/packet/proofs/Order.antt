@@ -62,17 +62,11 @@ sound b e = first (which (length b) 20)
     first (below h) = absurd (omega (arith, too-short b h))
     first (above h) = tested h (wrong b) refl
 
--- so the transport header is there, of a packet that is no later fragment
-there : (b : List ℕ) → Sound b → (n : ℕ) → needed (protocol b) (later b) ≡ n → headerLength b + n ≤ length b
-there b s n e = omega (arith, s .enough)
-
-pub tcp-there : (b : List ℕ) → headerRefusal b ≡ 0 → later b ≡ false → protocol b ≡ 6 → headerLength b + 20 ≤ length b
-unfolding needed
-tcp-there b e l p = there b (sound b e) 20 (rw (l, p))
-
-pub udp-there : (b : List ℕ) → headerRefusal b ≡ 0 → later b ≡ false → protocol b ≡ 17 → headerLength b + 8 ≤ length b
-unfolding needed
-udp-there b e l p = there b (sound b e) 8 (rw (l, p))
+-- so what a protocol needs is there after the IP header, of a packet that is no later fragment
+pub there : (b : List ℕ) (p n : ℕ) → headerRefusal b ≡ 0 → later b ≡ false → protocol b ≡ p → needed p false ≡ n → headerLength b + n ≤ length b
+there b p n e l q is =
+    let same : needed (protocol b) (later b) ≡ n = rw (l, q) is in
+    omega (arith, sound b e .enough)
 
 -- what reading answers, by the number of the refusal
 pub answered-no : (b : List ℕ) (n : ℕ) → n ≡ headerRefusal b → (n ≡ 0 → ⊥) → Refused n ≡ readOf b

@@ -36,15 +36,15 @@ fn image(table: &[[u8; 16]; 8], r: usize, nibble: u32) -> u32
     table[r][n] as u32
 }
 
-// The four nibbles of half a word, each replaced by what the table has there. No term waits for another.
+// The four lowest nibbles of a word, each replaced by what the table has there. No term waits for another.
 fn half(table: &[[u8; 16]; 8], r: usize, word: u32) -> u32
-    requires { ⌜ (SmallRow (now table) r) × (word < 65536) ⌝ }
+    requires { ⌜ SmallRow (now table) r ⌝ }
     ensures { λ v. ⌜ (v ≡ nibbles 4 (box (now (table .entry)) r) word) × (v < 65536) ⌝ }
 {
     image(table, r, word % 16)
         + image(table, r, word / 16 % 16) * 16
         + image(table, r, word / 256 % 16) * 256
-        + image(table, r, word / 4096) * 4096
+        + image(table, r, word / 4096 % 16) * 4096
 }
 
 // Each of the eight nibbles of a word replaced by what the table has there.
@@ -52,7 +52,7 @@ fn substituted(table: &[[u8; 16]; 8], r: usize, word: u32) -> u32
     requires { ⌜ SmallRow (now table) r ⌝ }
     ensures { λ v. ⌜ v ≡ nibbles 8 (box (now (table .entry)) r) word ⌝ }
 {
-    half(table, r, word % 65536) + half(table, r, word / 65536) * 65536
+    half(table, r, word) + half(table, r, word / 65536) * 65536
 }
 
 // A rotation to the left by 11 places, and back.

@@ -1,8 +1,6 @@
 -- Document 01, "Settings and sizes": the settings.
 -- Assumes nothing.
 use mathlib.Core.Bool.{Bool, _||_}
-use Prim.Native.Nat.{ℕ}
-use lib.Dec.{ltb}
 use lib.IntN.{ℤ, pos}
 use lib.Signed.{ltZ}
 use lib.ListN.{replicate}
@@ -10,17 +8,15 @@ use Rattle.laws.specs.Signed.{minus}
 use Rattle.settings.specs.declared.Settings.{Settings}
 
 -- below the least or above the most of a range
-abbrev pub outside : ℕ → ℕ → ℕ → Bool
-outside least most n = ltb n least || ltb most n
-
-abbrev pub outsideℤ : ℤ → ℤ → ℤ → Bool
-outsideℤ least most z = ltZ z least || ltZ most z
+abbrev pub outside : ℤ → ℤ → ℤ → Bool
+outside least most z = ltZ z least || ltZ most z
 
 -- refusal 1, "a setting is outside its range": "Threshold T 1 to 255. Floor Cmin -1,000 to 0. Dmiss 1 to 3,600 seconds. Dconn 1 to 62
 -- minutes. Eight 32-bit round keys, free."
 unfoldable pub badSettings : Settings → Bool
 badSettings s =
-    outside 1 255 (s .threshold) || outsideℤ (minus 1000) (pos 0) (s .floor) || outside 1 3600 (s .dmiss) || outside 1 62 (s .dconn)
+    outside (pos 1) (pos 255) (pos (s .threshold)) || outside (minus 1000) (pos 0) (s .floor) || outside (pos 1) (pos 3600) (pos (s .dmiss))
+    || outside (pos 1) (pos 62) (pos (s .dconn))
 
 -- "The factory settings belong to the settings type itself: T 10, Cmin -20, Dmiss 60, Dconn 10, keys all zero."
 abbrev pub factorySettings : Settings

@@ -17,6 +17,7 @@ pub struct Settings {
 }
 
 impl Settings {
+    // The factory values of threshold, floor, dmiss and dconn, under document 01's letters.
     pub const T: u16 = 10;
 
     pub const CMIN: i16 = -20;

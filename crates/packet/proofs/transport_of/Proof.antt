@@ -1,29 +1,26 @@
 -- `packet::transport_of` meets its contract: each arm is the definition's case, and the bytes that it reads are there.
 -- Assumes nothing.
-use mathlib.Core.Path.{sym, _∙_}
-use Prim.Native.Nat.{_+_, _≤_}
+use mathlib.Core.Path.{_≡_, refl, sym, _∙_}
+use mathlib.Core.Bool.{false}
+use Prim.Native.Nat.{ℕ, _+_, _≤_}
 use native.Mathlib.Omega.{arith}
 use lib.ListN.{length}
 use denote.Ref.{now}
 use borrow.Author.Tests.{ne-eqb}
 use borrow.Author.Needs.{needs}
 use Rattle.packet.specs.Kinds.{kindOf}
-use Rattle.packet.specs.Header.{transportOf}
-use Rattle.packet.proofs.Order.{tcp-there, udp-there}
+use Rattle.packet.specs.Header.{protocol, needed, transportOf}
+use Rattle.packet.proofs.Order.{there}
 use Rattle.packet.proofs.transport_of.Statement.{statement}
 use Rattle.packet.proofs.transport_of.Tie as tie
 
-tcp : (c : tie.At-match-keys1) → c .before .before .before .before .header-length .result + 20 ≤ length (now (c .before .before .before .before .before .before .before .args .bytes))
-tcp c =
-    let start = c .before .before .before .before in
+-- past the test for a later fragment: what the protocol needs is there
+after : (c : tie.Else1) (p n : ℕ) → protocol (now (c .before .before .before .before .before .before .args .bytes)) ≡ p → needed p false ≡ n
+    → c .before .before .before .header-length .result + n ≤ length (now (c .before .before .before .before .before .before .args .bytes))
+after c p n q is =
+    let start = c .before .before .before in
     rw (start .header-length .ensures .0)
-    (tcp-there _ (start .before .before .before .pre .1) (sym (c .before .before .is-later .ensures) ∙ c .before .if1 .left) (c .match .keys1))
-
-udp : (c : tie.At-match-keys2) → c .before .before .before .before .header-length .result + 8 ≤ length (now (c .before .before .before .before .before .before .before .args .bytes))
-udp c =
-    let start = c .before .before .before .before in
-    rw (start .header-length .ensures .0)
-    (udp-there _ (start .before .before .before .pre .1) (sym (c .before .before .is-later .ensures) ∙ c .before .if1 .left) (c .match .keys2))
+    (there _ p n (start .before .before .before .pre .1) (sym (c .before .is-later .ensures) ∙ c .if1 .left) q is)
 
 shared-slice-read-header-length : tie.Need-shared-slice-read-header-length
 shared-slice-read-header-length c = search needs
@@ -48,16 +45,22 @@ add-of-flags : tie.Need-add-of-flags
 add-of-flags c = search needs
 
 shared-slice-read-of-flags : tie.Need-shared-slice-read-of-flags
-shared-slice-read-of-flags c = omega (arith, tcp (c .before))
+unfolding needed
+shared-slice-read-of-flags c = omega (arith, after (c .before .before) 6 20 (c .before .match .keys1) refl)
 
 of-flags-requires : tie.Need-of-flags-requires
 of-flags-requires c κs = search needs
 
 with-ports-requires : tie.Need-with-ports-requires
-with-ports-requires c κs = omega (arith, tcp (c .before .before), c .before .before .before .before .before .before .header-length .ensures)
+unfolding needed
+with-ports-requires c κs =
+    let past = c .before .before .before in
+    omega (arith, after past 6 20 (c .before .before .match .keys1) refl, past .before .before .before .header-length .ensures)
 
 with-ports-requires-2 : tie.Need-with-ports-requires-2
-with-ports-requires-2 c κs = omega (arith, udp c, c .before .before .before .before .header-length .ensures)
+unfolding needed
+with-ports-requires-2 c κs =
+    omega (arith, after (c .before) 17 8 (c .match .keys2) refl, c .before .before .before .before .header-length .ensures)
 
 portless-requires-2 : tie.Need-portless-requires-2
 portless-requires-2 c κs = search needs

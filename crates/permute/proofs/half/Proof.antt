@@ -42,7 +42,7 @@ returns c =
     let w = c .before .before .before in
     let s = w .before in (
       rw (w .image .ensures .0, c .before .before .image2 .ensures .0, c .before .image3 .ensures .0, c .image4 .ensures .0)
-          (four (box (now (s .args .table)) (s .args .r)) (s .args .word) (s .pre .1)),
+          (four (box (now (s .args .table)) (s .args .r)) (s .args .word)),
       search needs,
     )
 
