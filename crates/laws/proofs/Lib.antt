@@ -5,3 +5,4 @@ pub mod Search
 pub mod Table
 pub mod Sweep
 pub mod Signed
+pub mod Times

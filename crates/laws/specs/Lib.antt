@@ -2,3 +2,4 @@
 pub mod Search
 pub mod Choice
 pub mod Signed
+pub mod Times

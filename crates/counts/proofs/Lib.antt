@@ -1,0 +1,2 @@
+-- What is proved of counts beyond the contracts.
+pub mod Counts

@@ -1,0 +1,88 @@
+-- `counts::decay_all` meets its contract: one sweep, and none where no multiple was passed.
+-- Assumes nothing.
+use mathlib.Core.Path.{sym, ap, _∙_}
+use Prim.Native.Nat.{ℕ, _-_}
+use native.Mathlib.Omega.{arith}
+use lib.IntN.{pos}
+use lib.ListN.{length}
+use denote.Ref.{now}
+use mir.Syntax.{w16}
+use mir.ValLaws.{toZ-ofZ}
+use borrow.Author.Needs.{needs}
+use Rattle.laws.proofs.Sweep.{Sweeping, sweep-start, sweep-turn, sweep-end, map-same}
+use Rattle.counts.proofs.Counts.{decayed-none, in-steps}
+use Rattle.counts.proofs.fallen.Reads as fallen-reads
+use Rattle.counts.proofs.steps_of.Reads as steps-of-reads
+use Rattle.counts.specs.Counts.{decayedBy}
+use Rattle.counts.proofs.decay_all.Statement.{statement}
+use Rattle.counts.proofs.decay_all.Tie as tie
+
+abbrev Inv-loop : tie.InvT-loop
+Inv-loop counts₀ multiples steps i₀ counts i = Sweeping (decayedBy multiples) counts₀ counts i
+
+abbrev μ-loop : tie.MeasureT-loop
+μ-loop counts₀ multiples steps i₀ counts i = length counts₀ - i
+
+returns : tie.Need-returns Inv-loop μ-loop
+returns c =
+    let s = c .before in
+    sym (map-same _ (λ z. ap (λ (m : ℕ). decayedBy m z) (c .if1 .taken) ∙ decayed-none z) (now (s .args .counts)))
+
+steps-of-requires : tie.Need-steps-of-requires Inv-loop μ-loop
+steps-of-requires c κs = search needs
+
+loop-holds : tie.Need-loop-holds Inv-loop μ-loop
+loop-holds c = sweep-start _ _
+
+mul-fallen : tie.Need-mul-fallen Inv-loop μ-loop
+mul-fallen c = search needs
+
+slice-copy-out-fallen : tie.Need-slice-copy-out-fallen Inv-loop μ-loop
+slice-copy-out-fallen c = search needs
+
+fallen-requires : tie.Need-fallen-requires Inv-loop μ-loop
+fallen-requires c κs = search needs
+
+mul-t11 : tie.Need-mul-t11 Inv-loop μ-loop
+mul-t11 c = search needs
+
+slice-set-from-counts : tie.Need-slice-set-from-counts Inv-loop μ-loop
+slice-set-from-counts c = search needs
+
+add-i : tie.Need-add-i Inv-loop μ-loop
+add-i c = omega arith
+
+loop-less : tie.Need-loop-less Inv-loop μ-loop
+loop-less c = omega arith
+
+loop-again : tie.Need-loop-again Inv-loop μ-loop
+loop-again c =
+    let w = c .before .before in
+    sweep-turn (pos 0) _ (w .before .loop .inv) (w .loop-test .taken)
+    (toZ-ofZ w16 _ (record { sfits = c .fallen .ok }) ∙ c .fallen .ensures ∙ in-steps _ (record { sfits = c .before .fallen-arg .given }) (w .before .before .steps-of .ensures))
+
+same-length : tie.Need-same-length Inv-loop μ-loop
+same-length c = c .before .loop .inv .long
+
+returns-2 : tie.Need-returns-2 Inv-loop μ-loop
+returns-2 c = sweep-end (c .before .loop .inv) (c .loop-test .left)
+
+pub decay-all-spec : {M : Type 1} → statement M
+decay-all-spec =
+    tie.close
+    (tie.spec
+    Inv-loop
+    μ-loop
+    returns
+    steps-of-requires
+    loop-holds
+    mul-fallen
+    slice-copy-out-fallen
+    fallen-requires
+    mul-t11
+    slice-set-from-counts
+    add-i
+    loop-less
+    loop-again
+    same-length
+    returns-2)

@@ -1,0 +1,55 @@
+-- `counts::raised` meets its contract. The sum is made in 32 bits, where it cannot overflow.
+-- Assumes nothing.
+use mathlib.Core.Path.{_≡_, sym, _∙_}
+use native.Mathlib.Omega.{arith}
+use lib.IntN.{pos, _+ℤ_}
+use mir.Syntax.{w16, w32}
+use mir.Val.{toZ, ofZ}
+use mir.ValLaws.{toZ-ofZ, toZ-pos}
+use borrow.Author.Needs.{needs}
+use Rattle.laws.proofs.Signed.{signed, sum-is, sfits-out, known, leZ-yes, leZ-no}
+use Rattle.laws.proofs.Tests.{cond-at}
+use Rattle.counts.proofs.Counts.{wider, wide-is}
+use Rattle.counts.specs.Counts.{raisedBy}
+use Rattle.counts.proofs.raised.Statement.{statement}
+use Rattle.counts.proofs.raised.Tie as tie
+
+-- what the machine makes in 32 bits is the sum of the numbers
+plain : (c : tie.Start) → toZ w32 (ofZ w32 (toZ w16 (ofZ w16 (c .args .count)))) +ℤ toZ w32 (c .args .points) ≡ c .args .count +ℤ pos (c .args .points)
+plain c = λ i. wide-is (c .fits .count) i +ℤ toZ-pos w32 (c .args .points) (omega arith) i
+
+cast-sum : tie.Need-cast-sum
+cast-sum c = wider (c .fits .count)
+
+cast-sum-2 : tie.Need-cast-sum-2
+cast-sum-2 c = search needs
+
+add-sum : tie.Need-add-sum
+add-sum c = rw (plain c) (sfits-out _ (omega (signed, sum-is (c .args .count) (pos (c .args .points)), known (c .fits .count))))
+
+-- and so is the local that holds it
+total-is : (c : tie.Start) → toZ w32 (ofZ w32 (toZ w32 (ofZ w32 (toZ w16 (ofZ w16 (c .args .count)))) +ℤ toZ w32 (c .args .points))) ≡ c .args .count +ℤ pos (c .args .points)
+total-is c = toZ-ofZ w32 _ (add-sum c) ∙ plain c
+
+returns : tie.Need-returns
+unfolding raisedBy
+returns c =
+    let s = c .before in
+    let e = total-is s in
+    sym (cond-at _ _ (leZ-no (s .args .count +ℤ pos (s .args .points)) (pos 32767) (omega signed)))
+
+cast-result : tie.Need-cast-result
+cast-result c =
+    let s = c .before in
+    let e = total-is s in
+    rw e (sfits-out _ (omega (signed, sum-is (s .args .count) (pos (s .args .points)), known (s .fits .count))))
+
+returns-2 : tie.Need-returns-2
+unfolding raisedBy
+returns-2 c =
+    let s = c .before in
+    let e = total-is s in
+    toZ-ofZ w16 _ (cast-result c) ∙ e ∙ sym (cond-at _ _ (leZ-yes (s .args .count +ℤ pos (s .args .points)) (pos 32767) (omega signed)))
+
+pub raised-spec : {M : Type 1} → statement M
+raised-spec = tie.close (tie.spec cast-sum cast-sum-2 add-sum returns cast-result returns-2)

@@ -1,0 +1,2 @@
+-- What an entry's count says.
+pub mod Counts

@@ -1,0 +1,2 @@
+-- What is proved of connection records beyond the contracts.
+pub mod Ages

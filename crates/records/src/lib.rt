@@ -1,0 +1,84 @@
+// Connection records: one byte each, with a mark for each direction and an age in minutes.
+ghost use mathlib.Core.Path.{_≡_};
+ghost use mathlib.Core.List.{map};
+ghost use Prim.Native.Nat.{_<_, _≤_, min};
+ghost use Rattle.records.specs.Records.{plantSeen, cellSeen, recordOf, agedBy};
+
+// Whether a packet from plant to cell was seen.
+pub fn plant_seen(byte: u8) -> bool
+    ensures { λ r. ⌜ r ≡ plantSeen byte ⌝ }
+{
+    byte / 128 % 2 == 1
+}
+
+// Whether a packet from cell to plant was seen.
+pub fn cell_seen(byte: u8) -> bool
+    ensures { λ r. ⌜ r ≡ cellSeen byte ⌝ }
+{
+    byte / 64 % 2 == 1
+}
+
+// The record with these marks on which a packet was forwarded just now: its age is 0.
+pub fn renewed(plant: bool, cell: bool) -> u8
+    ensures { λ r. ⌜ r ≡ recordOf plant cell 0 ⌝ }
+{
+    if plant {
+        if cell { 192 } else { 128 }
+    } else {
+        if cell { 64 } else { 0 }
+    }
+}
+
+// So many minutes as one record can tell apart: none gets older than 63, so that 64 clear them all.
+fn steps_of(minutes: u32) -> u8
+    ensures { λ r. ⌜ r ≡ min minutes 64 ⌝ }
+{
+    if minutes < 64 { minutes as u8 } else { 64 }
+}
+
+// The highest age that is kept: Dconn, which is at most 62, and never more than six bits hold.
+fn oldest_kept(dconn: u8) -> u8
+    ensures { λ r. ⌜ r ≡ min dconn 63 ⌝ }
+{
+    if dconn < 63 { dconn } else { 63 }
+}
+
+// One record after a minute boundary or several. All in bytes, so that a sweep takes many records at once.
+fn older(byte: u8, steps: u8, oldest: u8) -> u8
+    requires { ⌜ (0 < steps) × (steps ≤ 64) × (oldest ≤ 63) ⌝ }
+    ensures { λ r. ⌜ r ≡ agedBy oldest steps byte ⌝ }
+{
+    if byte < 64 {
+        return 0;
+    }
+    if oldest < byte % 64 + steps {
+        return 0;
+    }
+    byte + steps
+}
+
+// One record after so many minute boundaries.
+pub fn aged(byte: u8, minutes: u32, dconn: u8) -> u8
+    ensures { λ r. ⌜ r ≡ agedBy dconn minutes byte ⌝ }
+{
+    if minutes == 0 {
+        return byte;
+    }
+    older(byte, steps_of(minutes), oldest_kept(dconn))
+}
+
+// Every record after so many minute boundaries. With none, none is touched.
+pub fn age_all(records: &mut [u8], minutes: u32, dconn: u8)
+    ensures { λ _. ⌜ now (records .exit) ≡ map (agedBy dconn minutes) (now (records .entry)) ⌝ }
+{
+    if minutes == 0 {
+        return;
+    }
+    let steps = steps_of(minutes);
+    let oldest = oldest_kept(dconn);
+    let mut i = 0;
+    while i < records.len() {
+        records[i] = older(records[i], steps, oldest);
+        i += 1;
+    }
+}
