@@ -13,6 +13,7 @@ use mir.Syntax.{Width}
 use mir.Val.{SFits, hbits, toZ, ofZ}
 use mir.ValLaws.{toZ-ofZ}
 use Rattle.laws.proofs.Tests.{is-true, is-false}
+use Rattle.laws.proofs.Search.{Order}
 
 abbrev pub up : ℤ → ℕ
 up (pos n) = n
@@ -106,6 +107,15 @@ ltZ-yes a b h = is-true (ltZ a b) (λ e. omega (arith, ltZ-false a b e))
 
 pub ltZ-no : (a b : ℤ) → up b + dn a ≤ up a + dn b → ltZ a b ≡ false
 ltZ-no a b h = is-false (ltZ a b) (λ e. omega (arith, ltZ-true a b e))
+
+-- the smaller a number, the further it goes
+pub by-smallness : Order (λ a b. leZ b a)
+by-smallness =
+    record {
+      same = λ a. leZ-yes a a (omega arith);
+      through = λ {a} {b} {c} p q. leZ-yes c a (omega (arith, leZ-true b a p, leZ-true c b q));
+      either = λ {a} {b} e. leZ-yes a b (omega (arith, leZ-false b a e));
+    }
 
 -- ---- sums and differences
 cond-ind : (c : Bool) (x y : ℤ) (P : ℤ → Type 0) → (T c → P x) → (T (not c) → P y) → P (cond c x y)

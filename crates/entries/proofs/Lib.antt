@@ -1,0 +1,2 @@
+-- What is proved of entries beyond the contracts.
+pub mod Lines

@@ -1,0 +1,102 @@
+-- `entries::write` meets its contract: what the writer did to the line, said of the table.
+-- Assumes nothing.
+use mathlib.Core.Path.{sym, _∙_}
+use denote.Ref.{now}
+use mir.Syntax.{w16}
+use mir.ValLaws.{toZ-ofZ}
+use borrow.Author.Needs.{needs}
+use Rattle.laws.proofs.Tests.{cond-at}
+use Rattle.entries.proofs.Lines.{has-line, line-written}
+use Rattle.entries.proofs.write_entry.Reads as write-entry-reads
+use Rattle.entries.specs.Entries.{written}
+use Rattle.entries.proofs.write.Statement.{statement}
+use Rattle.entries.proofs.write.Tie as tie
+
+mul-at : tie.Need-mul-at
+mul-at c = search needs
+
+add-if1 : tie.Need-add-if1
+add-if1 c = search needs
+
+add-if1-2 : tie.Need-add-if1-2
+add-if1-2 c = search needs
+
+returns : tie.Need-returns
+unfolding written
+returns c = sym (cond-at _ _ (c .if1 .taken))
+
+add-write-entry : tie.Need-add-write-entry
+add-write-entry c = search needs
+
+mul-write-entry : tie.Need-mul-write-entry
+mul-write-entry c = search needs
+
+sub-write-entry : tie.Need-sub-write-entry
+sub-write-entry c = search needs
+
+part-write-entry-start : tie.Need-part-write-entry-start
+part-write-entry-start c = search needs
+
+part-write-entry-end : tie.Need-part-write-entry-end
+part-write-entry-end c =
+    let s = c .before .before in
+    let h = has-line (s .args .line) (now (s .args .tags)) (now (s .args .counts)) (c .if1 .left) in
+    search needs
+
+add-write-entry-2 : tie.Need-add-write-entry-2
+add-write-entry-2 c = search needs
+
+mul-write-entry-2 : tie.Need-mul-write-entry-2
+mul-write-entry-2 c = search needs
+
+sub-write-entry-2 : tie.Need-sub-write-entry-2
+sub-write-entry-2 c = search needs
+
+part-write-entry-start-2 : tie.Need-part-write-entry-start-2
+part-write-entry-start-2 c = search needs
+
+part-write-entry-end-2 : tie.Need-part-write-entry-end-2
+part-write-entry-end-2 c =
+    let s = c .before .before .before in
+    let h = has-line (s .args .line) (now (s .args .tags)) (now (s .args .counts)) (c .before .if1 .left) in
+    search needs
+
+write-entry-requires : tie.Need-write-entry-requires
+write-entry-requires c κs = search needs
+
+same-length : tie.Need-same-length
+same-length c = search needs
+
+same-length-2 : tie.Need-same-length-2
+same-length-2 c = search needs
+
+returns-2 : tie.Need-returns-2
+returns-2 c =
+    let w = c .before .before .before in
+    let e = w .before .before .before in
+    let s = e .before .before in
+    line-written (s .args .line) (s .args .tag) (s .args .count) (now (s .args .tags)) _ (now (s .args .counts)) _ _ (e .if1 .left)
+    (rw (toZ-ofZ w16 _ (s .fits .count)) at (w .write-entry .ensures))
+
+pub write-spec : {M : Type 1} → statement M
+write-spec =
+    tie.close
+    (tie.spec
+    mul-at
+    add-if1
+    add-if1-2
+    returns
+    add-write-entry
+    mul-write-entry
+    sub-write-entry
+    part-write-entry-start
+    part-write-entry-end
+    add-write-entry-2
+    mul-write-entry-2
+    sub-write-entry-2
+    part-write-entry-start-2
+    part-write-entry-end-2
+    write-entry-requires
+    same-length
+    same-length-2
+    returns-2)

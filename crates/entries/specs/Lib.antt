@@ -1,0 +1,2 @@
+-- What the entries of the address table say.
+pub mod Entries
