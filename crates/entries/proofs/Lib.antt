@@ -1,2 +1,3 @@
 -- What is proved of entries beyond the contracts.
 pub mod Lines
+pub mod Readback

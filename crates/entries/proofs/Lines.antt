@@ -65,6 +65,10 @@ part-is line xs =
     let four : 4 * line + 4 - 4 * line ≡ 4 = omega arith in
     ap (λ (k : ℕ). take k (drop (4 * line) xs)) four
 
+-- and has four entries
+pub line-length : {A : Type 0} (line : ℕ) (xs : List A) → 4 * line + 4 ≤ length xs → length (lineOf line xs) ≡ 4
+line-length line xs h = sym (ap length (part-is line xs)) ∙ mid-len (4 * line) (4 * line + 4) xs h ∙ omega arith
+
 -- a line given back with one entry set is the table with that entry set
 given-back : {A : Type 0} (line way : ℕ) (xs ys : List A) (v : A) → 4 * line + 4 ≤ length xs → way < 4 → ys ≡ set (midOf (4 * line) (4 * line + 4 - 4 * line) xs) way v
     → putMid (4 * line) (4 * line + 4 - 4 * line) xs ys ≡ set xs (4 * line + way) v

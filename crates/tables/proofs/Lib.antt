@@ -1,2 +1,3 @@
 -- What is proved of the tables beyond the contracts.
 pub mod Powers
+pub mod Jumps

@@ -1,2 +1,3 @@
--- What the tables are.
+-- What the tables are, and what time does to them.
 pub mod Sizes
+pub mod Clock

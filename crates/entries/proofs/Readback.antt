@@ -1,0 +1,212 @@
+-- What is read after an entry was written: the count that was written; any other tag's as it was, unless it was the one replaced; and
+-- the other lines untouched. For every table, also one that no gateway would write.
+-- Assumes nothing.
+use mathlib.Core.Path.{_≡_, refl, sym, ap, subst, _∙_}
+use mathlib.Core.Bool.{Bool, true, false, not, _&&_, _||_, cond, and-false}
+use mathlib.Core.Logic.{_≢_}
+use mathlib.Core.List.{List}
+use Prim.Native.Nat.{ℕ, _+_, _*_, _-_, _≤_, _<_}
+use native.Mathlib.Decide.{ℕ-discrete}
+use native.Mathlib.Omega.{arith}
+use lib.Dec.{eqb, ltb}
+use lib.IntN.{ℤ, pos}
+use lib.ListN.{length, getD, set, take, drop, length-set}
+use lib.Seq.{getD-set-same, getD-set-other, length-take-le, take-set-lt, take-set-le, drop-set-lt, drop-set-add}
+use borrow.Author.Tests.{eq-eqb, ne-eqb, eqb-true, lt-ltb, le-ltb, ltb-true}
+use Rattle.laws.specs.Search.{firstBelow}
+use Rattle.laws.proofs.Search.{first-at, first-is, first-same}
+use Rattle.laws.proofs.Tests.{Which, below, above, which, true-is-not-false, and-right, cond-at}
+use Rattle.counts.specs.Counts.{isEmpty}
+use Rattle.entries.specs.declared.Replaced.{Replaced}
+use Rattle.entries.specs.declared.Replaced.the-variants.{Nothing, Tag}
+use Rattle.entries.specs.declared.Room.{Room}
+use Rattle.entries.specs.Entries.{lineOf, lacksLine, isOwn, ownWay, emptyWay, smallestWay, countIn, countOf, roomOf, roomFor, writtenOf, written}
+use Rattle.entries.proofs.Lines.{smallest-lt, room-own, room-empty, room-smallest, room-lt, has-line, line-length}
+
+-- ---- in a line
+module _ (tag : ℕ) (tags : List ℕ) (counts : List ℤ) where
+  -- no way before the first is the tag's
+  before-own : (j : ℕ) → j < ownWay tag tags counts → isOwn tag tags counts j ≡ false
+  unfolding ownWay
+  before-own j l = first-is 4 (isOwn tag tags counts) .before j l
+
+  at-own : ownWay tag tags counts < 4 → isOwn tag tags counts (ownWay tag tags counts) ≡ true
+  unfolding ownWay
+  at-own h = first-is 4 (isOwn tag tags counts) .holds h
+
+  at-empty : emptyWay counts < 4 → isEmpty (getD counts (emptyWay counts) (pos 0)) ≡ true
+  unfolding emptyWay
+  at-empty h = first-is 4 (λ way. isEmpty (getD counts way (pos 0))) .holds h
+
+  -- so none before the room is either
+  before-room : (j : ℕ) → j < roomFor tag tags counts .way → isOwn tag tags counts j ≡ false
+  before-room j l = own (which (ownWay tag tags counts) 4)
+    where
+      own : Which (ownWay tag tags counts) 4 → isOwn tag tags counts j ≡ false
+      own (below h) = before-own j (rw (ap (λ (r : Room). r .way) (room-own tag tags counts _ refl h)) l)
+      own (above h) = before-own j (omega (arith, l, room-lt tag tags counts))
+
+  -- an entry with another tag is not the tag's, nor is an empty one
+  other-tag : (t way : ℕ) → (getD tags way 0 ≡ t → ⊥) → isOwn t tags counts way ≡ false
+  other-tag t way ne = ap (λ (b : Bool). not (isEmpty (getD counts way (pos 0))) && b) (ne-eqb _ t ne) ∙ and-false (not (isEmpty (getD counts way (pos 0))))
+
+  no-entry : (t way : ℕ) → isEmpty (getD counts way (pos 0)) ≡ true → isOwn t tags counts way ≡ false
+  no-entry t way e = ap (λ (b : Bool). not b && eqb (getD tags way 0) t) e
+
+  -- what stands in the room is no other tag's entry, or that tag is told as replaced
+  in-room : (t : ℕ) → t ≢ tag → (roomFor tag tags counts .replaced ≡ Tag t → ⊥) → isOwn t tags counts (roomFor tag tags counts .way) ≡ false
+  in-room t ne told = own (which (ownWay tag tags counts) 4)
+    where
+      goal : Room → Type 0
+      goal r = (r .replaced ≡ Tag t → ⊥) → isOwn t tags counts (r .way) ≡ false
+
+      empty : 4 ≤ ownWay tag tags counts → Which (emptyWay counts) 4 → isOwn t tags counts (roomFor tag tags counts .way) ≡ false
+      empty h (below k) = subst goal (room-empty tag tags counts _ _ refl h refl k) (λ n. no-entry t _ (at-empty k)) told
+      empty h (above k) =
+          subst goal (room-smallest tag tags counts _ _ _ refl h refl k refl) (λ n. other-tag t _ (λ e. n (ap Tag e))) told
+
+      own : Which (ownWay tag tags counts) 4 → isOwn t tags counts (roomFor tag tags counts .way) ≡ false
+      own (below h) =
+          let own = ownWay tag tags counts in
+          let mine = eqb-true (getD tags own 0) tag (and-right (not (isEmpty (getD counts own (pos 0)))) (eqb (getD tags own 0) tag) (at-own h)) in
+          subst goal (room-own tag tags counts _ refl h) (λ n. other-tag t _ (λ e. ne (sym e ∙ mine))) told
+      own (above h) = empty h (which (emptyWay counts) 4)
+
+-- a line with one entry set
+module _ (tags : List ℕ) (counts : List ℤ) (way tag : ℕ) (count : ℤ) (in-tags : way < length tags) (in-counts : way < length counts) where
+  -- the entry is what was set
+  set-here : (t : ℕ) → isOwn t (set tags way tag) (set counts way count) way ≡ (not (isEmpty count) && eqb tag t)
+  set-here t = λ i. not (isEmpty (getD-set-same counts way count (pos 0) in-counts i)) && eqb (getD-set-same tags way tag 0 in-tags i) t
+
+  -- the others are what they were
+  set-there : (t j : ℕ) → j ≢ way → isOwn t (set tags way tag) (set counts way count) j ≡ isOwn t tags counts j
+  set-there t j ne = λ i. not (isEmpty (getD-set-other counts way j count (pos 0) ne i)) && eqb (getD-set-other tags way j tag 0 ne i) t
+
+  -- the tag's count is then the one that was set
+  own-read : way < 4 → ((j : ℕ) → j < way → isOwn tag tags counts j ≡ false) → isEmpty count ≡ false → countIn tag (set tags way tag) (set counts way count) ≡ count
+  unfolding countIn ownWay
+  own-read h none full =
+      rw here (cond-at _ _ (lt-ltb way 4 h) ∙ getD-set-same counts way count (pos 0) in-counts)
+    where
+      here : firstBelow 4 (isOwn tag (set tags way tag) (set counts way count)) ≡ way
+      here =
+          first-at 4 (isOwn tag (set tags way tag) (set counts way count)) way h
+          (λ j l. set-there tag j (omega arith) ∙ none j l)
+          (set-here tag ∙ (λ i. not (full i) && eq-eqb tag tag refl i))
+
+  -- and another tag's as it was, unless its entry stood there
+  other-read : (t : ℕ) → t ≢ tag → isOwn t tags counts way ≡ false → countIn t (set tags way tag) (set counts way count) ≡ countIn t tags counts
+  unfolding countIn ownWay
+  other-read t ne was = rw same (value (ltb first 4) refl)
+    where
+      first : ℕ
+      first = firstBelow 4 (isOwn t tags counts)
+
+      agree : (j : ℕ) → Dec (j ≡ way) → isOwn t (set tags way tag) (set counts way count) j ≡ isOwn t tags counts j
+      agree j (yes e) =
+          let mine : eqb tag t ≡ false = ne-eqb tag t (λ q. ne (sym q)) in
+          rw e (set-here t ∙ ap (λ (b : Bool). not (isEmpty count) && b) mine ∙ and-false (not (isEmpty count)) ∙ sym was)
+      agree j (no e) = set-there t j e
+
+      same : firstBelow 4 (isOwn t (set tags way tag) (set counts way count)) ≡ first
+      same = first-same 4 _ _ (λ j l. agree j (ℕ-discrete j way))
+
+      value : (b : Bool) → ltb first 4 ≡ b → cond b (getD (set counts way count) first (pos 0)) (pos 0) ≡ cond b (getD counts first (pos 0)) (pos 0)
+      value false e = refl
+      value true e =
+          getD-set-other counts way first count (pos 0)
+          (λ q. true-is-not-false (first-is 4 (isOwn t tags counts) .holds (ltb-true _ _ e)) (ap (isOwn t tags counts) q ∙ was))
+
+-- ---- in the table
+-- the line that was written, with its entry set
+own-line : {A : Type 0} (line way : ℕ) (xs : List A) (v : A) → way < 4 → lineOf line (set xs (4 * line + way) v) ≡ set (lineOf line xs) way v
+own-line {A} line way xs v h =
+    ap (λ (l : List A). take 4 l) (drop-set-add (4 * line) xs way v) ∙ take-set-lt 4 (drop (4 * line) xs) way v h
+
+-- any other line, as it was
+other-line : {A : Type 0} (m line way : ℕ) (xs : List A) (v : A) → m ≢ line → way < 4 → lineOf m (set xs (4 * line + way) v) ≡ lineOf m xs
+other-line {A} m line way xs v ne h = go (which m line)
+  where
+    go : Which m line → lineOf m (set xs (4 * line + way) v) ≡ lineOf m xs
+    go (below l) =
+        let e : 4 * line + way ≡ 4 * m + (4 * (line - m) + way) = omega arith in
+        ap (λ (k : ℕ). lineOf m (set xs k v)) e
+        ∙ ap (λ (l : List A). take 4 l) (drop-set-add (4 * m) xs (4 * (line - m) + way) v)
+        ∙ take-set-le 4 (drop (4 * m) xs) (4 * (line - m) + way) v (omega arith)
+    go (above l) = ap (λ (l : List A). take 4 l) (drop-set-lt (4 * m) xs (4 * line + way) v (omega arith))
+
+-- a write keeps the lists' lengths, so that they lack the same lines as before
+same-lines : (m i j v : ℕ) (z : ℤ) (tags : List ℕ) (counts : List ℤ) → lacksLine m (set tags i v) (set counts j z) ≡ lacksLine m tags counts
+same-lines m i j v z tags counts = λ k. ltb (length-set tags i v k) (4 * m + 4) || ltb (length-set counts j z k) (4 * m + 4)
+
+module _ (line tag : ℕ) (count : ℤ) (tags : List ℕ) (counts : List ℤ) where
+  abbrev room : Room
+  room = roomFor tag (lineOf line tags) (lineOf line counts)
+
+  -- a line that is not there: nothing is written
+  nothing : lacksLine line tags counts ≡ true → written line tag count tags counts ≡ writtenOf Nothing tags counts
+  unfolding written
+  nothing e = cond-at _ _ e
+
+  -- one that is: its room is
+  something : lacksLine line tags counts ≡ false
+      → written line tag count tags counts ≡ writtenOf (room .replaced) (set tags (4 * line + room .way) tag) (set counts (4 * line + room .way) count)
+  unfolding written
+  something e = cond-at _ _ e
+
+  -- "what was written is read back"
+  pub read-back : lacksLine line tags counts ≡ false → isEmpty count ≡ false → countOf line tag (written line tag count tags counts .tags) (written line tag count tags counts .counts) ≡ count
+  unfolding countOf
+  read-back e full =
+      let way = room .way in
+      let h = has-line line tags counts e in
+      let low = room-lt tag (lineOf line tags) (lineOf line counts) in
+      rw (something e, own-line line way tags tag low, own-line line way counts count low)
+      (cond-at _ _ (same-lines line _ _ tag count tags counts ∙ e)
+      ∙ own-read (lineOf line tags) (lineOf line counts) way tag count (omega (arith, line-length line tags (h .0))) (omega (arith, line-length line counts (h .1))) low (before-room tag (lineOf line tags) (lineOf line counts)) full)
+
+  kept : (t : ℕ) → t ≢ tag → lacksLine line tags counts ≡ false → (room .replaced ≡ Tag t → ⊥)
+      → countOf line t (set tags (4 * line + room .way) tag) (set counts (4 * line + room .way) count) ≡ countOf line t tags counts
+  unfolding countOf
+  kept t ne e told =
+      let h = has-line line tags counts e in
+      let low = room-lt tag (lineOf line tags) (lineOf line counts) in
+      rw (own-line line (room .way) tags tag low, own-line line (room .way) counts count low)
+      (λ i. cond (same-lines line (4 * line + room .way) (4 * line + room .way) tag count tags counts i) (pos 0)
+      (other-read (lineOf line tags) (lineOf line counts) (room .way) tag count (omega (arith, line-length line tags (h .0))) (omega (arith, line-length line counts (h .1))) t ne (in-room tag (lineOf line tags) (lineOf line counts) t ne told) i))
+
+  -- "any other tag of the line keeps its count unless it was the one replaced"
+  pub others-keep : (t : ℕ) → t ≢ tag → (written line tag count tags counts .replaced ≡ Tag t → ⊥)
+      → countOf line t (written line tag count tags counts .tags) (written line tag count tags counts .counts) ≡ countOf line t tags counts
+  others-keep t ne told = go (lacksLine line tags counts) refl
+    where
+      go : (b : Bool) → lacksLine line tags counts ≡ b
+          → countOf line t (written line tag count tags counts .tags) (written line tag count tags counts .counts) ≡ countOf line t tags counts
+      go true e = rw (nothing e)
+      go false e = rw (something e) (kept t ne e (rw (something e) at told))
+
+  -- "the other lines are out of its reach and unchanged"
+  pub other-lines : (m : ℕ) → m ≢ line
+      → (lineOf m (written line tag count tags counts .tags) ≡ lineOf m tags) × (lineOf m (written line tag count tags counts .counts) ≡ lineOf m counts)
+  other-lines m ne = go (lacksLine line tags counts) refl
+    where
+      go : (b : Bool) → lacksLine line tags counts ≡ b
+          → (lineOf m (written line tag count tags counts .tags) ≡ lineOf m tags) × (lineOf m (written line tag count tags counts .counts) ≡ lineOf m counts)
+      go true e = rw (nothing e) (refl, refl)
+      go false e =
+          let low = room-lt tag (lineOf line tags) (lineOf line counts) in
+          rw (something e) (other-line m line (room .way) tags tag ne low, other-line m line (room .way) counts count ne low)
+
+  pub other-lines-keep : (m t : ℕ) → m ≢ line
+      → countOf m t (written line tag count tags counts .tags) (written line tag count tags counts .counts) ≡ countOf m t tags counts
+  unfolding countOf
+  other-lines-keep m t ne = go (lacksLine line tags counts) refl
+    where
+      go : (b : Bool) → lacksLine line tags counts ≡ b
+          → countOf m t (written line tag count tags counts .tags) (written line tag count tags counts .counts) ≡ countOf m t tags counts
+      go true e = rw (nothing e)
+      go false e =
+          let low = room-lt tag (lineOf line tags) (lineOf line counts) in
+          rw (something e)
+          (λ i. cond (same-lines m (4 * line + room .way) (4 * line + room .way) tag count tags counts i) (pos 0)
+          (countIn t (other-line m line (room .way) tags tag ne low i) (other-line m line (room .way) counts count ne low i)))

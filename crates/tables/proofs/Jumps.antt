@@ -1,0 +1,136 @@
+-- Passing a gap at once is passing it by way of any moment between, and so second by second.
+-- Assumes nothing.
+use mathlib.Core.Path.{_≡_, refl, sym, ap, _∙_}
+use mathlib.Core.Bool.{Bool, true, false}
+use mathlib.Core.List.{List, map}
+use Prim.Native.Nat.{ℕ, zero, suc, _+_, _-_, _/_, _%_, _≤_, _<_, max}
+use native.Mathlib.Nat.{mod-zero, div-zero}
+use native.Mathlib.Omega.{arith}
+use lib.Dec.{eqb}
+use lib.IntN.{ℤ}
+use borrow.Author.Tests.{ne-eqb}
+use Rattle.laws.specs.Times.{times, howMany}
+use Rattle.laws.proofs.Times.{times-none, times-more, multiples, none-of, quotient-up}
+use Rattle.laws.proofs.Tests.{Which, below, above, which}
+use Rattle.laws.proofs.Sweep.{map-same, map-twice}
+use Rattle.records.specs.Records.{agedBy}
+use Rattle.records.proofs.Ages.{aged-none, aged-add}
+use Rattle.counts.specs.Counts.{decayedBy}
+use Rattle.counts.proofs.Counts.{decayed-none, decayed-add}
+use Rattle.tables.specs.Clock.{passed, Timed, timedOf, timePassed}
+
+-- ---- how many boundaries
+-- none of 0
+pub passed-of-none : (old new : ℕ) → passed 0 old new ≡ 0
+unfolding passed
+passed-of-none old new =
+    none-of (new - old) (λ i. eqb ((old + suc i) % 0) 0)
+    (λ i l. ap (λ (n : ℕ). eqb n 0) (mod-zero (old + suc i)) ∙ ne-eqb (old + suc i) 0 (λ (q : old + suc i ≡ 0). omega arith))
+
+-- as many as the quotient grows
+pub passed-is : (k old new : ℕ) → old ≤ new → passed k old new ≡ new / k - old / k
+unfolding passed
+passed-is k old new h = go (which 0 k)
+  where
+    there : old + (new - old) ≡ new
+    there = omega arith
+
+    go : Which 0 k → howMany (new - old) (λ i. eqb ((old + suc i) % k) 0) ≡ new / k - old / k
+    go (below l) = omega (arith, multiples k old (new - old) l, ap (λ (n : ℕ). n / k) there)
+    go (above l) =
+        let e : k ≡ 0 = omega arith in
+        rw (e, div-zero new) (passed-of-none old new ∙ omega arith)
+
+-- none where the time does not go on
+pub passed-none : (k old new : ℕ) → new ≤ old → passed k old new ≡ 0
+unfolding passed
+passed-none k old new h =
+    let e : new - old ≡ 0 = omega arith in
+    ap (λ (n : ℕ). howMany n (λ i. eqb ((old + suc i) % k) 0)) e ∙ none-of 0 _ (λ i l. absurd (omega arith))
+
+-- those up to a moment between, and those after it
+pub passed-add : (k a b c : ℕ) → a ≤ b → b ≤ c → passed k a c ≡ passed k a b + passed k b c
+passed-add k a b c h l =
+    omega (arith, passed-is k a b h, passed-is k b c l, passed-is k a c (omega arith), quotient-up k h, quotient-up k l)
+
+-- ---- both tables
+-- no boundary: every record and every count as it was
+not-aged : (d m : ℕ) → m ≡ 0 → (xs : List ℕ) → map (agedBy d m) xs ≡ xs
+not-aged d m e xs = map-same (agedBy d m) (λ b. ap (λ (k : ℕ). agedBy d k b) e ∙ aged-none d b) xs
+
+not-decayed : (m : ℕ) → m ≡ 0 → (zs : List ℤ) → map (decayedBy m) zs ≡ zs
+not-decayed m e zs = map-same (decayedBy m) (λ z. ap (λ (k : ℕ). decayedBy k z) e ∙ decayed-none z) zs
+
+module _ (dmiss dconn : ℕ) where
+  pub clock-is : (time : ℕ) (m : Timed) → timePassed dmiss dconn time m .clock ≡ max (m .clock) time
+  unfolding timePassed
+  clock-is time m = refl
+
+  -- a time that is not after the clock changes nothing
+  pub stands : (time : ℕ) (m : Timed) → time ≤ m .clock → timePassed dmiss dconn time m ≡ m
+  unfolding timePassed
+  stands time m h = λ i. timedOf
+      (not-aged dconn (passed 60 (m .clock) time) (passed-none 60 (m .clock) time h) (m .records) i)
+      (not-decayed (passed dmiss (m .clock) time) (passed-none dmiss (m .clock) time h) (m .counts) i)
+      (last i)
+    where
+      last : max (m .clock) time ≡ m .clock
+      last = omega arith
+
+  -- one that is moves the clock there, after a sweep of each table
+  pub moves : {time minutes multiples : ℕ} (m : Timed) {records : List ℕ} {counts : List ℤ} → m .clock ≤ time
+      → minutes ≡ passed 60 (m .clock) time → multiples ≡ passed dmiss (m .clock) time
+      → records ≡ map (agedBy dconn minutes) (m .records) → counts ≡ map (decayedBy multiples) (m .counts)
+      → timedOf records counts time ≡ timePassed dmiss dconn time m
+  unfolding timePassed
+  moves {time} m h p q r s =
+      let last : time ≡ max (m .clock) time = omega arith in
+      (λ i. timedOf (r i) (s i) (last i))
+      ∙ (λ i. timedOf (map (agedBy dconn (p i)) (m .records)) (map (decayedBy (q i)) (m .counts)) (max (m .clock) time))
+
+  -- "Without a boundary only the clock changes."
+  pub only-the-clock : (time : ℕ) (m : Timed) → passed 60 (m .clock) time ≡ 0 → passed dmiss (m .clock) time ≡ 0
+      → timePassed dmiss dconn time m ≡ timedOf (m .records) (m .counts) (max (m .clock) time)
+  unfolding timePassed
+  only-the-clock time m p q = λ i. timedOf (not-aged dconn _ p (m .records) i) (not-decayed _ q (m .counts) i) (max (m .clock) time)
+
+  -- a jump is two jumps by way of any moment between
+  pub by-way-of : (between time : ℕ) (m : Timed) → m .clock ≤ between → between ≤ time
+      → timePassed dmiss dconn time m ≡ timePassed dmiss dconn time (timePassed dmiss dconn between m)
+  unfolding timePassed
+  by-way-of between time m h l = λ i. timedOf (aged i) (decayed i) (last i)
+    where
+      there : max (m .clock) between ≡ between
+      there = omega arith
+
+      split : (k : ℕ) → passed k (m .clock) time ≡ passed k (m .clock) between + passed k (max (m .clock) between) time
+      split k = rw there (passed-add k (m .clock) between time h l)
+
+      aged : map (agedBy dconn (passed 60 (m .clock) time)) (m .records)
+          ≡ map (agedBy dconn (passed 60 (max (m .clock) between) time)) (map (agedBy dconn (passed 60 (m .clock) between)) (m .records))
+      aged = map-twice _ _ _ (λ b. ap (λ (k : ℕ). agedBy dconn k b) (split 60) ∙ aged-add dconn _ _ b) (m .records)
+
+      decayed : map (decayedBy (passed dmiss (m .clock) time)) (m .counts)
+          ≡ map (decayedBy (passed dmiss (max (m .clock) between) time)) (map (decayedBy (passed dmiss (m .clock) between)) (m .counts))
+      decayed = map-twice _ _ _ (λ z. ap (λ (k : ℕ). decayedBy k z) (split dmiss) ∙ decayed-add _ _ z) (m .counts)
+
+      last : max (m .clock) time ≡ max (max (m .clock) between) time
+      last = omega arith
+
+  -- one second
+  abbrev pub aSecond : Timed → Timed
+  aSecond m = timePassed dmiss dconn (suc (m .clock)) m
+
+  -- "Passing a gap in one jump leaves the same state as passing it second by second."
+  pub second-by-second : (gap : ℕ) (m : Timed) → times gap aSecond m ≡ timePassed dmiss dconn (m .clock + gap) m
+  second-by-second zero m =
+      times-none aSecond m ∙ sym (stands (m .clock + 0) m (omega arith))
+  second-by-second (suc gap) m =
+      let before = second-by-second gap m in
+      times-more aSecond gap m
+      ∙ ap aSecond before
+      ∙ ap (λ (t : ℕ). timePassed dmiss dconn t (timePassed dmiss dconn (m .clock + gap) m)) (next gap)
+      ∙ sym (by-way-of (m .clock + gap) (m .clock + suc gap) m (omega arith) (omega arith))
+    where
+      next : (g : ℕ) → suc (timePassed dmiss dconn (m .clock + g) m .clock) ≡ m .clock + suc g
+      next g = omega (arith, clock-is (m .clock + g) m)
