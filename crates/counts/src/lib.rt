@@ -44,7 +44,11 @@ pub fn raised(count: i16, points: u8) -> i16
 fn steps_of(multiples: u32) -> u16
     ensures { λ r. ⌜ r ≡ min multiples 32767 ⌝ }
 {
-    if multiples < 32767 { multiples as u16 } else { 32767 }
+    if multiples < 32767 {
+        multiples as u16
+    } else {
+        32767
+    }
 }
 
 // A positive count less so many steps, stopping at 0; any other stays. All in 16 bits, so that a sweep takes many counts at once.

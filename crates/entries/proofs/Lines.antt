@@ -1,22 +1,20 @@
 -- The room for an entry is one of its line's four ways, and what the writer says of the line that it was lent, said of the whole table.
 -- Assumes nothing.
 use mathlib.Core.Path.{_≡_, refl, sym, ap, _∙_}
-use mathlib.Core.Bool.{Bool, true, false, cond, _||_}
-use mathlib.Core.List.{List, _++_}
+use mathlib.Core.Bool.{false}
+use mathlib.Core.List.{List}
 use Prim.Native.Nat.{ℕ, _+_, _*_, _-_, _≤_, _<_}
 use native.Mathlib.Omega.{arith}
 use lib.Dec.{ltb}
 use lib.IntN.{ℤ, pos}
 use lib.ListN.{length, take, drop, set, getD}
-use lib.Signed.{leZ}
-use borrow.Author.Tests.{lt-ltb, le-ltb, ltb-true, ltb-false}
-use borrow.Rule.Slice.PartMut.{midOf, putMid, post-is, set-mid-at, mid-len}
+use borrow.Author.Tests.{lt-ltb, le-ltb, ltb-false}
+use borrow.Rule.Slice.PartMut.{midOf, putMid, set-mid-at, mid-len}
 use Rattle.laws.proofs.Tests.{Which, below, above, which, or-left, or-right, cond-at}
 use Rattle.laws.proofs.Search.{lead-is}
 use Rattle.laws.proofs.Signed.{by-smallness}
 use Rattle.entries.specs.declared.Replaced.{Replaced}
 use Rattle.entries.specs.declared.Replaced.the-variants.{Nothing, Tag}
-use Rattle.entries.specs.declared.Room.{Room}
 use Rattle.entries.specs.Entries.{lineOf, lacksLine, ownWay, emptyWay, smallestWay, roomOf, roomFor, writtenOf, written}
 
 -- the smallest is one of the four
@@ -79,9 +77,9 @@ given-back line way xs ys v h l e =
 -- what the writer did to a line, and what that is to the table
 pub line-written : (line tag : ℕ) (count : ℤ) (tags ts : List ℕ) (counts cs : List ℤ) (r : Replaced) → lacksLine line tags counts ≡ false
     → let part = roomFor tag (midOf (4 * line) (4 * line + 4 - 4 * line) tags) (midOf (4 * line) (4 * line + 4 - 4 * line) counts) in
-      (r ≡ part .replaced)
-      × (ts ≡ set (midOf (4 * line) (4 * line + 4 - 4 * line) tags) (part .way) tag)
-      × (cs ≡ set (midOf (4 * line) (4 * line + 4 - 4 * line) counts) (part .way) count)
+    (r ≡ part .replaced)
+    × (ts ≡ set (midOf (4 * line) (4 * line + 4 - 4 * line) tags) (part .way) tag)
+    × (cs ≡ set (midOf (4 * line) (4 * line + 4 - 4 * line) counts) (part .way) count)
     → writtenOf r (putMid (4 * line) (4 * line + 4 - 4 * line) tags ts) (putMid (4 * line) (4 * line + 4 - 4 * line) counts cs) ≡ written line tag count tags counts
 unfolding written
 line-written line tag count tags ts counts cs r e w =

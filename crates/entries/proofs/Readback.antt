@@ -11,17 +11,16 @@ use native.Mathlib.Omega.{arith}
 use lib.Dec.{eqb, ltb}
 use lib.IntN.{ℤ, pos}
 use lib.ListN.{length, getD, set, take, drop, length-set}
-use lib.Seq.{getD-set-same, getD-set-other, length-take-le, take-set-lt, take-set-le, drop-set-lt, drop-set-add}
-use borrow.Author.Tests.{eq-eqb, ne-eqb, eqb-true, lt-ltb, le-ltb, ltb-true}
+use lib.Seq.{getD-set-same, getD-set-other, take-set-lt, take-set-le, drop-set-lt, drop-set-add}
+use borrow.Author.Tests.{eq-eqb, ne-eqb, eqb-true, lt-ltb, ltb-true}
 use Rattle.laws.specs.Search.{firstBelow}
 use Rattle.laws.proofs.Search.{first-at, first-is, first-same}
 use Rattle.laws.proofs.Tests.{Which, below, above, which, true-is-not-false, and-right, cond-at}
 use Rattle.counts.specs.Counts.{isEmpty}
-use Rattle.entries.specs.declared.Replaced.{Replaced}
 use Rattle.entries.specs.declared.Replaced.the-variants.{Nothing, Tag}
 use Rattle.entries.specs.declared.Room.{Room}
-use Rattle.entries.specs.Entries.{lineOf, lacksLine, isOwn, ownWay, emptyWay, smallestWay, countIn, countOf, roomOf, roomFor, writtenOf, written}
-use Rattle.entries.proofs.Lines.{smallest-lt, room-own, room-empty, room-smallest, room-lt, has-line, line-length}
+use Rattle.entries.specs.Entries.{lineOf, lacksLine, isOwn, ownWay, emptyWay, countIn, countOf, roomFor, Written, writtenOf, written}
+use Rattle.entries.proofs.Lines.{room-own, room-empty, room-smallest, room-lt, has-line, line-length}
 
 -- ---- in a line
 module _ (tag : ℕ) (tags : List ℕ) (counts : List ℤ) where
@@ -140,73 +139,78 @@ same-lines : (m i j v : ℕ) (z : ℤ) (tags : List ℕ) (counts : List ℤ) →
 same-lines m i j v z tags counts = λ k. ltb (length-set tags i v k) (4 * m + 4) || ltb (length-set counts j z k) (4 * m + 4)
 
 module _ (line tag : ℕ) (count : ℤ) (tags : List ℕ) (counts : List ℤ) where
-  abbrev room : Room
+  -- what the write leaves, and the room that the entry takes
+  abbrev pub after : Written
+  after = written line tag count tags counts
+
+  abbrev pub room : Room
   room = roomFor tag (lineOf line tags) (lineOf line counts)
 
+  low : room .way < 4
+  low = room-lt tag (lineOf line tags) (lineOf line counts)
+
   -- a line that is not there: nothing is written
-  nothing : lacksLine line tags counts ≡ true → written line tag count tags counts ≡ writtenOf Nothing tags counts
+  nothing : lacksLine line tags counts ≡ true → after ≡ writtenOf Nothing tags counts
   unfolding written
   nothing e = cond-at _ _ e
 
-  -- one that is: its room is
+  -- one that is: its entry is
   something : lacksLine line tags counts ≡ false
-      → written line tag count tags counts ≡ writtenOf (room .replaced) (set tags (4 * line + room .way) tag) (set counts (4 * line + room .way) count)
+      → after ≡ writtenOf (room .replaced) (set tags (4 * line + room .way) tag) (set counts (4 * line + room .way) count)
   unfolding written
   something e = cond-at _ _ e
 
-  -- "what was written is read back"
-  pub read-back : lacksLine line tags counts ≡ false → isEmpty count ≡ false → countOf line tag (written line tag count tags counts .tags) (written line tag count tags counts .counts) ≡ count
+  -- then the room is within the line's part of each list
+  within : lacksLine line tags counts ≡ false → (room .way < length (lineOf line tags)) × (room .way < length (lineOf line counts))
+  within e =
+      let h = has-line line tags counts e in
+      (omega (arith, low, line-length line tags (h .0)), omega (arith, low, line-length line counts (h .1)))
+
+  -- what was written is read back
+  pub read-back : lacksLine line tags counts ≡ false → isEmpty count ≡ false → countOf line tag (after .tags) (after .counts) ≡ count
   unfolding countOf
   read-back e full =
-      let way = room .way in
-      let h = has-line line tags counts e in
-      let low = room-lt tag (lineOf line tags) (lineOf line counts) in
-      rw (something e, own-line line way tags tag low, own-line line way counts count low)
+      rw (something e, own-line line (room .way) tags tag low, own-line line (room .way) counts count low)
       (cond-at _ _ (same-lines line _ _ tag count tags counts ∙ e)
-      ∙ own-read (lineOf line tags) (lineOf line counts) way tag count (omega (arith, line-length line tags (h .0))) (omega (arith, line-length line counts (h .1))) low (before-room tag (lineOf line tags) (lineOf line counts)) full)
+      ∙ own-read (lineOf line tags) (lineOf line counts) (room .way) tag count (within e .0) (within e .1) low
+      (before-room tag (lineOf line tags) (lineOf line counts)) full)
 
   kept : (t : ℕ) → t ≢ tag → lacksLine line tags counts ≡ false → (room .replaced ≡ Tag t → ⊥)
       → countOf line t (set tags (4 * line + room .way) tag) (set counts (4 * line + room .way) count) ≡ countOf line t tags counts
   unfolding countOf
   kept t ne e told =
-      let h = has-line line tags counts e in
-      let low = room-lt tag (lineOf line tags) (lineOf line counts) in
       rw (own-line line (room .way) tags tag low, own-line line (room .way) counts count low)
       (λ i. cond (same-lines line (4 * line + room .way) (4 * line + room .way) tag count tags counts i) (pos 0)
-      (other-read (lineOf line tags) (lineOf line counts) (room .way) tag count (omega (arith, line-length line tags (h .0))) (omega (arith, line-length line counts (h .1))) t ne (in-room tag (lineOf line tags) (lineOf line counts) t ne told) i))
+      (other-read (lineOf line tags) (lineOf line counts) (room .way) tag count (within e .0) (within e .1) t ne
+      (in-room tag (lineOf line tags) (lineOf line counts) t ne told) i))
 
-  -- "any other tag of the line keeps its count unless it was the one replaced"
-  pub others-keep : (t : ℕ) → t ≢ tag → (written line tag count tags counts .replaced ≡ Tag t → ⊥)
-      → countOf line t (written line tag count tags counts .tags) (written line tag count tags counts .counts) ≡ countOf line t tags counts
+  -- any other tag of the line keeps its count unless it was the one replaced
+  pub others-keep : (t : ℕ) → t ≢ tag → (after .replaced ≡ Tag t → ⊥) → countOf line t (after .tags) (after .counts) ≡ countOf line t tags counts
   others-keep t ne told = go (lacksLine line tags counts) refl
     where
-      go : (b : Bool) → lacksLine line tags counts ≡ b
-          → countOf line t (written line tag count tags counts .tags) (written line tag count tags counts .counts) ≡ countOf line t tags counts
+      go : (b : Bool) → lacksLine line tags counts ≡ b → countOf line t (after .tags) (after .counts) ≡ countOf line t tags counts
       go true e = rw (nothing e)
       go false e = rw (something e) (kept t ne e (rw (something e) at told))
 
-  -- "the other lines are out of its reach and unchanged"
-  pub other-lines : (m : ℕ) → m ≢ line
-      → (lineOf m (written line tag count tags counts .tags) ≡ lineOf m tags) × (lineOf m (written line tag count tags counts .counts) ≡ lineOf m counts)
+  -- the other lines are as they were
+  pub other-lines : (m : ℕ) → m ≢ line → (lineOf m (after .tags) ≡ lineOf m tags) × (lineOf m (after .counts) ≡ lineOf m counts)
   other-lines m ne = go (lacksLine line tags counts) refl
     where
-      go : (b : Bool) → lacksLine line tags counts ≡ b
-          → (lineOf m (written line tag count tags counts .tags) ≡ lineOf m tags) × (lineOf m (written line tag count tags counts .counts) ≡ lineOf m counts)
+      go : (b : Bool) → lacksLine line tags counts ≡ b → (lineOf m (after .tags) ≡ lineOf m tags) × (lineOf m (after .counts) ≡ lineOf m counts)
       go true e = rw (nothing e) (refl, refl)
       go false e =
-          let low = room-lt tag (lineOf line tags) (lineOf line counts) in
           rw (something e) (other-line m line (room .way) tags tag ne low, other-line m line (room .way) counts count ne low)
 
-  pub other-lines-keep : (m t : ℕ) → m ≢ line
-      → countOf m t (written line tag count tags counts .tags) (written line tag count tags counts .counts) ≡ countOf m t tags counts
-  unfolding countOf
-  other-lines-keep m t ne = go (lacksLine line tags counts) refl
+  same-lack : (m : ℕ) → lacksLine m (after .tags) (after .counts) ≡ lacksLine m tags counts
+  same-lack m = go (lacksLine line tags counts) refl
     where
-      go : (b : Bool) → lacksLine line tags counts ≡ b
-          → countOf m t (written line tag count tags counts .tags) (written line tag count tags counts .counts) ≡ countOf m t tags counts
+      go : (b : Bool) → lacksLine line tags counts ≡ b → lacksLine m (after .tags) (after .counts) ≡ lacksLine m tags counts
       go true e = rw (nothing e)
-      go false e =
-          let low = room-lt tag (lineOf line tags) (lineOf line counts) in
-          rw (something e)
-          (λ i. cond (same-lines m (4 * line + room .way) (4 * line + room .way) tag count tags counts i) (pos 0)
-          (countIn t (other-line m line (room .way) tags tag ne low i) (other-line m line (room .way) counts count ne low i)))
+      go false e = rw (something e) (same-lines m _ _ tag count tags counts)
+
+  -- so every tag of another line keeps its count
+  pub other-lines-keep : (m t : ℕ) → m ≢ line → countOf m t (after .tags) (after .counts) ≡ countOf m t tags counts
+  unfolding countOf
+  other-lines-keep m t ne =
+      let same = other-lines m ne in
+      λ i. cond (same-lack m i) (pos 0) (countIn t (same .0 i) (same .1 i))

@@ -70,14 +70,23 @@ fn room_for(tags: &[u32], counts: &[i16], tag: u32) -> Room
 {
     let own = own_way(tags, counts, tag);
     if own < 4 {
-        return Room { way: own, replaced: Replaced::Nothing };
+        return Room {
+            way: own,
+            replaced: Replaced::Nothing,
+        };
     }
     let empty = empty_way(counts);
     if empty < 4 {
-        return Room { way: empty, replaced: Replaced::Nothing };
+        return Room {
+            way: empty,
+            replaced: Replaced::Nothing,
+        };
     }
     let smallest = smallest_way(counts);
-    Room { way: smallest, replaced: Replaced::Tag(tags[smallest]) }
+    Room {
+        way: smallest,
+        replaced: Replaced::Tag(tags[smallest]),
+    }
 }
 
 // The count of a tag in its line, 0 where it has no entry.

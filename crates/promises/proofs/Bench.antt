@@ -3,8 +3,12 @@
 use mathlib.Core.Path.{_≡_, refl}
 use mathlib.Core.List.{[], _∷_, map}
 use lib.ListN.{replicate}
+use Rattle.laws.specs.Times.{times, howMany}
 use Rattle.permute.specs.Permutation.{boxes, nibbles, round, rounds, E}
 use Rattle.places.specs.Places.{slotOf, placeOf}
+use Rattle.records.specs.Records.{minutePassed, agedBy}
+use Rattle.counts.specs.Counts.{larger, multiplePassed, decayedBy}
+use Rattle.tables.specs.Clock.{passed, timePassed}
 use Rattle.promises.specs.Bench.{zeros, table}
 
 -- the permutation is computed once for each word that the table has, and not again inside slots and lines
@@ -25,10 +29,10 @@ unfolding boxes nibbles round rounds E
 at-key-one = refl
 
 pub bench : map (λ r. r .computed) table ≡ map (λ r. r .said) table
-unfolding table slotOf placeOf
+unfolding times howMany table slotOf placeOf minutePassed agedBy larger multiplePassed decayedBy passed timePassed
 bench = simp (at-zero, at-ones, at-nines, at-key-one)
 
 -- and no row is missing
-pub rows : map (λ r. r .number) table ≡ 1 ∷ 2 ∷ 3 ∷ 4 ∷ 5 ∷ 6 ∷ []
+pub rows : map (λ r. r .number) table ≡ 1 ∷ 2 ∷ 3 ∷ 4 ∷ 5 ∷ 6 ∷ 9 ∷ 10 ∷ 11 ∷ []
 unfolding table
 rows = refl

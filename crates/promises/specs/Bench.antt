@@ -1,11 +1,16 @@
 -- Document 01, "Bench examples": the numbered ones, as one table. Each row has what the definitions give and what the document says.
 -- Assumes nothing.
-use mathlib.Core.List.{List, [], _∷_}
+use mathlib.Core.Bool.{true}
+use mathlib.Core.List.{List, [], _∷_, _++_, map}
 use Prim.Native.Nat.{ℕ}
 use lib.IntN.{ℤ, pos}
 use lib.ListN.{replicate}
+use Rattle.laws.specs.Signed.{minus}
 use Rattle.permute.specs.Permutation.{E}
 use Rattle.places.specs.Places.{slotOf, placeOf}
+use Rattle.records.specs.Records.{recordOf}
+use Rattle.counts.specs.Counts.{loweredBy}
+use Rattle.tables.specs.Clock.{timedOf, timePassed}
 
 pub record Row : Type 0 where
   pub number : ℕ
@@ -18,6 +23,13 @@ row number computed said = record { number = number; computed = computed; said =
 -- "Keys zero unless given."
 abbrev pub zeros : List ℕ
 zeros = replicate 8 0
+
+-- a count, and a record with both marks and an age, after a time was passed; Dmiss 60, Dconn 10
+abbrev countAfter : ℤ → ℕ → ℕ → List ℤ
+countAfter count old new = timePassed 60 10 new (timedOf [] (count ∷ []) old) .counts
+
+abbrev recordAfter : ℕ → ℕ → ℕ → List ℤ
+recordAfter age old new = map pos (timePassed 60 10 new (timedOf (recordOf true true age ∷ []) [] old) .records)
 
 unfoldable pub table : List Row
 table =
@@ -32,4 +44,11 @@ table =
     -- Plant 0, cell 0xFFFFFFFF, port 0, 4,096 records: slot 2,457
     row 5 (pos (slotOf zeros 0 0xFFFFFFFF 0 4096) ∷ []) (pos 2457 ∷ []) ∷
     -- Address 0xFFFFFFFF, 256 lines: line 153, tag 10,066,329
-    row 6 (pos (placeOf zeros 0xFFFFFFFF 256 .line) ∷ pos (placeOf zeros 0xFFFFFFFF 256 .tag) ∷ []) (pos 153 ∷ pos 10066329 ∷ []) ∷ []
+    row 6 (pos (placeOf zeros 0xFFFFFFFF 256 .line) ∷ pos (placeOf zeros 0xFFFFFFFF 256 .tag) ∷ []) (pos 153 ∷ pos 10066329 ∷ []) ∷
+    -- Cmin -20, count -19, verdict 3: count -20
+    row 9 (loweredBy 2 (minus 20) (minus 19) ∷ []) (minus 20 ∷ []) ∷
+    -- Dmiss 60, count 3: second 59 to 60 gives 2; 60 to 119 keeps 3; 0 to 600 gives 0. Count -4 stays
+    row 10 (countAfter (pos 3) 59 60 ++ (countAfter (pos 3) 60 119 ++ (countAfter (pos 3) 0 600 ++ countAfter (minus 4) 0 600)))
+    (pos 2 ∷ pos 3 ∷ pos 0 ∷ minus 4 ∷ []) ∷
+    -- Dconn 10, age 9, one minute: kept at 10. Age 10: cleared
+    row 11 (recordAfter 9 0 60 ++ recordAfter 10 0 60) (pos (recordOf true true 10) ∷ pos 0 ∷ []) ∷ []

@@ -1,9 +1,8 @@
 -- Passing a gap at once is passing it by way of any moment between, and so second by second.
 -- Assumes nothing.
 use mathlib.Core.Path.{_≡_, refl, sym, ap, _∙_}
-use mathlib.Core.Bool.{Bool, true, false}
 use mathlib.Core.List.{List, map}
-use Prim.Native.Nat.{ℕ, zero, suc, _+_, _-_, _/_, _%_, _≤_, _<_, max}
+use Prim.Native.Nat.{ℕ, zero, suc, _+_, _-_, _/_, _%_, _≤_, max}
 use native.Mathlib.Nat.{mod-zero, div-zero}
 use native.Mathlib.Omega.{arith}
 use lib.Dec.{eqb}

@@ -16,7 +16,14 @@ pub fn boundaries(every: u32, old: u32, new: u32) -> u32
 }
 
 // Passes a time over both tables and the clock. Within a second, and with a time before the clock, nothing is touched.
-pub fn pass(records: &mut [u8], counts: &mut [i16], clock: &mut u32, time: u32, dmiss: u16, dconn: u8)
+pub fn pass(
+    records: &mut [u8],
+    counts: &mut [i16],
+    clock: &mut u32,
+    time: u32,
+    dmiss: u16,
+    dconn: u8,
+)
     ensures { λ _. ⌜ timedOf (now (records .exit)) (now (counts .exit)) (now (clock .exit))
         ≡ timePassed dmiss dconn time (timedOf (now (records .entry)) (now (counts .entry)) (now (clock .entry))) ⌝ }
 {

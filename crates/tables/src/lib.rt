@@ -1,3 +1,3 @@
 // The gateway's two tables, as their caller lends them: the sizes that they may have, and what time does to them.
-pub mod sizes;
 pub mod clock;
+pub mod sizes;

@@ -1,7 +1,6 @@
 -- `counts::is_empty` meets its contract: a test of bits.
 -- Assumes nothing.
 use Rattle.counts.proofs.Counts.{empty-bits}
-use borrow.Author.Needs.{needs}
 use Rattle.counts.proofs.is_empty.Statement.{statement}
 use Rattle.counts.proofs.is_empty.Tie as tie
 

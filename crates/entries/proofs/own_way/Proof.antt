@@ -4,7 +4,6 @@ use mathlib.Core.Bool.{Bool, not, _&&_}
 use mathlib.Core.Path.{_≡_, sym, ap, _∙_}
 use Prim.Native.Nat.{_-_}
 use lib.Dec.{eqb}
-use lib.IntN.{pos}
 use lib.ListN.{getD}
 use denote.Ref.{now}
 use mir.Syntax.{w16}

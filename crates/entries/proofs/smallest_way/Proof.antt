@@ -1,16 +1,15 @@
 -- `entries::smallest_way` meets its contract: of four ways the first that no other falls below.
 -- Assumes nothing.
-use Prim.Native.Nat.{ℕ, _+_, _-_, _≤_}
+use Prim.Native.Nat.{_-_, _≤_}
 use Rattle.entries.specs.Entries.{smallestWay}
 use Rattle.laws.proofs.Search.{Leading, lead-start, lead-found, lead-kept, lead-end}
 use Rattle.laws.proofs.Signed.{signed, known, by-smallness}
 use borrow.Author.Needs.{needs}
 use denote.Ref.{now}
-use lib.IntN.{ℤ, pos}
+use lib.IntN.{pos}
 use lib.ListN.{getD}
 use lib.Signed.{leZ}
 use mathlib.Core.Logic.{⊎-elim}
-use mathlib.Core.Path.{_≡_, sym, subst}
 use mir.Syntax.{w16}
 use mir.Val.{SFits}
 use native.Mathlib.Omega.{arith}
@@ -49,12 +48,13 @@ loop-again c =
     let w = c .before .before .before in
     let l = now (w .before .before .args .counts) in
     let x : SFits w16 (getD l (w .before .loop .way) (pos 0)) = record { sfits = c .before .before .if12 .given } in
-    let y : SFits w16 (getD l (w .before .loop .best) (pos 0)) = record { sfits = c .before .if13 .given } in
-    (⊎-elim
-    (λ t. rw (t .1) (lead-found by-smallness _ (w .before .loop .inv .0) (omega (signed, known x, known y))))
-    (λ t. rw (t .1) (lead-kept by-smallness _ (w .before .loop .inv .0) (omega (signed, known x, known y))))
-    (c .if1 .came),
-    omega arith)
+    let y : SFits w16 (getD l (w .before .loop .best) (pos 0)) = record { sfits = c .before .if13 .given } in (
+      ⊎-elim
+          (λ t. rw (t .1) (lead-found by-smallness _ (w .before .loop .inv .0) (omega (signed, known x, known y))))
+          (λ t. rw (t .1) (lead-kept by-smallness _ (w .before .loop .inv .0) (omega (signed, known x, known y))))
+          (c .if1 .came),
+      omega arith,
+    )
 
 returns : tie.Need-returns Inv-loop μ-loop
 unfolding smallestWay

@@ -1,6 +1,6 @@
 -- `entries::write` meets its contract: what the writer did to the line, said of the table.
 -- Assumes nothing.
-use mathlib.Core.Path.{sym, _∙_}
+use mathlib.Core.Path.{sym}
 use denote.Ref.{now}
 use mir.Syntax.{w16}
 use mir.ValLaws.{toZ-ofZ}

@@ -8,7 +8,6 @@ use Rattle.records.proofs.steps_of.Reads as steps-of-reads
 use Rattle.records.specs.Records.{agedBy}
 use borrow.Author.Needs.{needs}
 use mathlib.Core.Path.{sym, ap, _∙_}
-use native.Mathlib.Omega.{arith}
 use Rattle.records.proofs.aged.Statement.{statement}
 use Rattle.records.proofs.aged.Tie as tie
 

@@ -1,6 +1,5 @@
 -- `records::renewed` meets its contract: one number for each pair of marks.
 -- Assumes nothing.
-use borrow.Author.Needs.{needs}
 use Rattle.records.proofs.renewed.Statement.{statement}
 use Rattle.records.proofs.renewed.Tie as tie
 
