@@ -1,26 +1,40 @@
 -- The room for an entry is one of its line's four ways, and what the writer says of the line that it was lent, said of the whole table.
 -- Assumes nothing.
-use mathlib.Core.Path.{_≡_, refl, sym, ap, _∙_}
-use mathlib.Core.Bool.{false}
+use mathlib.Core.Bool.{true, false}
 use mathlib.Core.List.{List}
+use mathlib.Core.Path.{_≡_, refl, sym, ap, _∙_}
 use Prim.Native.Nat.{ℕ, _+_, _*_, _-_, _≤_, _<_}
 use native.Mathlib.Omega.{arith}
 use lib.Dec.{ltb}
 use lib.IntN.{ℤ, pos}
 use lib.ListN.{length, take, drop, set, getD}
+use lib.Signed.{leZ}
 use borrow.Author.Tests.{lt-ltb, le-ltb, ltb-false}
 use borrow.Rule.Slice.PartMut.{midOf, putMid, set-mid-at, mid-len}
-use Rattle.laws.proofs.Tests.{Which, below, above, which, or-left, or-right, cond-at}
-use Rattle.laws.proofs.Search.{lead-is}
+use Rattle.laws.proofs.Search.{Leading, lead-is}
 use Rattle.laws.proofs.Signed.{by-smallness}
-use Rattle.entries.specs.declared.Replaced.{Replaced}
-use Rattle.entries.specs.declared.Replaced.the-variants.{Nothing, Tag}
+use Rattle.laws.proofs.Tests.{Which, below, above, which, or-left, or-right, cond-at}
 use Rattle.entries.specs.Entries.{lineOf, lacksLine, ownWay, emptyWay, smallestWay, roomOf, roomFor, writtenOf, written}
+use Rattle.entries.specs.declared.Replaced.the-variants.{Nothing, Tag}
+use Rattle.entries.specs.declared.Replaced.{Replaced}
 
--- the smallest is one of the four
-pub smallest-lt : (counts : List ℤ) → smallestWay counts < 4
-unfolding smallestWay
-smallest-lt counts = lead-is by-smallness (λ way. getD counts way (pos 0)) 3 .passed
+-- ---- the smallest count, lowest on a tie
+module _ (counts : List ℤ) where
+  leads : Leading (λ a b. leZ b a) (λ way. getD counts way (pos 0)) (smallestWay counts) 4
+  unfolding smallestWay
+  leads = lead-is by-smallness (λ way. getD counts way (pos 0)) 3
+
+  -- it is one of the four
+  pub smallest-lt : smallestWay counts < 4
+  smallest-lt = leads .passed
+
+  -- no count is below it
+  pub smallest-of-all : (way : ℕ) → way < 4 → leZ (getD counts (smallestWay counts) (pos 0)) (getD counts way (pos 0)) ≡ true
+  smallest-of-all = leads .most
+
+  -- and none before it is as small
+  pub lowest-on-a-tie : (way : ℕ) → way < smallestWay counts → leZ (getD counts way (pos 0)) (getD counts (smallestWay counts) (pos 0)) ≡ false
+  lowest-on-a-tie = leads .first
 
 -- ---- where there is room: three cases, by what the searches found
 module _ (tag : ℕ) (tags : List ℕ) (counts : List ℤ) where

@@ -1,10 +1,10 @@
 -- What is read after an entry was written: the count that was written; any other tag's as it was, unless it was the one replaced; and
 -- the other lines untouched. For every table, also one that no gateway would write.
 -- Assumes nothing.
-use mathlib.Core.Path.{_≡_, refl, sym, ap, subst, _∙_}
 use mathlib.Core.Bool.{Bool, true, false, not, _&&_, _||_, cond, and-false}
-use mathlib.Core.Logic.{_≢_}
 use mathlib.Core.List.{List}
+use mathlib.Core.Logic.{_≢_}
+use mathlib.Core.Path.{_≡_, refl, sym, ap, subst, _∙_}
 use Prim.Native.Nat.{ℕ, _+_, _*_, _-_, _≤_, _<_}
 use native.Mathlib.Decide.{ℕ-discrete}
 use native.Mathlib.Omega.{arith}
@@ -13,14 +13,14 @@ use lib.IntN.{ℤ, pos}
 use lib.ListN.{length, getD, set, take, drop, length-set}
 use lib.Seq.{getD-set-same, getD-set-other, take-set-lt, take-set-le, drop-set-lt, drop-set-add}
 use borrow.Author.Tests.{eq-eqb, ne-eqb, eqb-true, lt-ltb, ltb-true}
-use Rattle.laws.specs.Search.{firstBelow}
 use Rattle.laws.proofs.Search.{first-at, first-is, first-same}
 use Rattle.laws.proofs.Tests.{Which, below, above, which, true-is-not-false, and-right, cond-at}
+use Rattle.laws.specs.Search.{firstBelow}
 use Rattle.counts.specs.Counts.{isEmpty}
+use Rattle.entries.proofs.Lines.{room-own, room-empty, room-smallest, room-lt, has-line, line-length}
+use Rattle.entries.specs.Entries.{lineOf, lacksLine, isOwn, ownWay, emptyWay, countIn, countOf, roomFor, Written, writtenOf, written}
 use Rattle.entries.specs.declared.Replaced.the-variants.{Nothing, Tag}
 use Rattle.entries.specs.declared.Room.{Room}
-use Rattle.entries.specs.Entries.{lineOf, lacksLine, isOwn, ownWay, emptyWay, countIn, countOf, roomFor, Written, writtenOf, written}
-use Rattle.entries.proofs.Lines.{room-own, room-empty, room-smallest, room-lt, has-line, line-length}
 
 -- ---- in a line
 module _ (tag : ℕ) (tags : List ℕ) (counts : List ℤ) where

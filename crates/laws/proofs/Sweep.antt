@@ -92,3 +92,10 @@ module _ {A : Type 0} where
   pub map-twice : (f g h : A → A) → ((x : A) → f x ≡ g (h x)) → (l : List A) → map f l ≡ map g (map h l)
   map-twice f g h e [] = refl
   map-twice f g h e (x ∷ l) = λ i. e x i ∷ map-twice f g h e l i
+
+  -- sweeps by what so many steps do: none do nothing, and steps add up
+  pub map-none : (g : ℕ → A → A) → ((x : A) → g 0 x ≡ x) → (n : ℕ) → n ≡ 0 → (l : List A) → map (g n) l ≡ l
+  map-none g h n e l = ap (λ (k : ℕ). map (g k) l) e ∙ map-same (g 0) h l
+
+  pub map-added : (g : ℕ → A → A) → ((m n : ℕ) (x : A) → g (m + n) x ≡ g n (g m x)) → (m n k : ℕ) → k ≡ m + n → (l : List A) → map (g k) l ≡ map (g n) (map (g m) l)
+  map-added g h m n k e l = ap (λ (j : ℕ). map (g j) l) e ∙ map-twice (g (m + n)) (g n) (g m) (h m n) l

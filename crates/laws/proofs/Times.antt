@@ -1,5 +1,4 @@
--- Laws of `times` and `howMany`: repetitions add up, what each of them adds is what all of them come to, and so many multiples lie
--- between two numbers.
+-- Laws of `times` and `howMany`: repetitions add up, and so many multiples lie between two numbers.
 -- Assumes nothing.
 use mathlib.Core.Path.{_≡_, refl, sym, ap, _∙_}
 use mathlib.Core.Bool.{Bool, true, false, cond}
@@ -27,11 +26,6 @@ module _ {A : Type 0} (f : A → A) where
   times-add m (suc n) x =
       let e : m + suc n ≡ suc (m + n) = omega arith in
       ap (λ (k : ℕ). times k f x) e ∙ times-more (m + n) x ∙ ap f (times-add m n x) ∙ sym (times-more n (times m f x))
-
-  -- what all of them come to, shown of none and of one more
-  pub times-is : (g : ℕ → A → A) → ((x : A) → g 0 x ≡ x) → ((n : ℕ) (x : A) → g (suc n) x ≡ f (g n x)) → (n : ℕ) (x : A) → times n f x ≡ g n x
-  times-is g none more zero x = times-none x ∙ sym (none x)
-  times-is g none more (suc n) x = times-more n x ∙ ap f (times-is g none more n x) ∙ sym (more n x)
 
 -- ---- how many multiples
 -- the quotient grows by one at a multiple, and nowhere else

@@ -1,21 +1,21 @@
 -- Passing a gap at once is passing it by way of any moment between, and so second by second.
 -- Assumes nothing.
-use mathlib.Core.Path.{_≡_, refl, sym, ap, _∙_}
 use mathlib.Core.List.{List, map}
+use mathlib.Core.Path.{_≡_, refl, sym, ap, _∙_}
 use Prim.Native.Nat.{ℕ, zero, suc, _+_, _-_, _/_, _%_, _≤_, max}
 use native.Mathlib.Nat.{mod-zero, div-zero}
 use native.Mathlib.Omega.{arith}
 use lib.Dec.{eqb}
 use lib.IntN.{ℤ}
 use borrow.Author.Tests.{ne-eqb}
-use Rattle.laws.specs.Times.{times, howMany}
-use Rattle.laws.proofs.Times.{times-none, times-more, multiples, none-of, quotient-up}
+use Rattle.laws.proofs.Sweep.{map-none, map-added}
 use Rattle.laws.proofs.Tests.{Which, below, above, which}
-use Rattle.laws.proofs.Sweep.{map-same, map-twice}
-use Rattle.records.specs.Records.{agedBy}
-use Rattle.records.proofs.Ages.{aged-none, aged-add}
-use Rattle.counts.specs.Counts.{decayedBy}
+use Rattle.laws.proofs.Times.{times-none, times-more, multiples, none-of, quotient-up}
+use Rattle.laws.specs.Times.{times, howMany}
 use Rattle.counts.proofs.Counts.{decayed-none, decayed-add}
+use Rattle.counts.specs.Counts.{decayedBy}
+use Rattle.records.proofs.Ages.{aged-none, aged-add}
+use Rattle.records.specs.Records.{agedBy}
 use Rattle.tables.specs.Clock.{passed, Timed, timedOf, timePassed}
 
 -- ---- how many boundaries
@@ -55,10 +55,10 @@ passed-add k a b c h l =
 -- ---- both tables
 -- no boundary: every record and every count as it was
 not-aged : (d m : ℕ) → m ≡ 0 → (xs : List ℕ) → map (agedBy d m) xs ≡ xs
-not-aged d m e xs = map-same (agedBy d m) (λ b. ap (λ (k : ℕ). agedBy d k b) e ∙ aged-none d b) xs
+not-aged d = map-none (agedBy d) (aged-none d)
 
 not-decayed : (m : ℕ) → m ≡ 0 → (zs : List ℤ) → map (decayedBy m) zs ≡ zs
-not-decayed m e zs = map-same (decayedBy m) (λ z. ap (λ (k : ℕ). decayedBy k z) e ∙ decayed-none z) zs
+not-decayed = map-none decayedBy decayed-none
 
 module _ (dmiss dconn : ℕ) where
   pub clock-is : (time : ℕ) (m : Timed) → timePassed dmiss dconn time m .clock ≡ max (m .clock) time
@@ -107,11 +107,11 @@ module _ (dmiss dconn : ℕ) where
 
       aged : map (agedBy dconn (passed 60 (m .clock) time)) (m .records)
           ≡ map (agedBy dconn (passed 60 (max (m .clock) between) time)) (map (agedBy dconn (passed 60 (m .clock) between)) (m .records))
-      aged = map-twice _ _ _ (λ b. ap (λ (k : ℕ). agedBy dconn k b) (split 60) ∙ aged-add dconn _ _ b) (m .records)
+      aged = map-added (agedBy dconn) (aged-add dconn) _ _ _ (split 60) (m .records)
 
       decayed : map (decayedBy (passed dmiss (m .clock) time)) (m .counts)
           ≡ map (decayedBy (passed dmiss (max (m .clock) between) time)) (map (decayedBy (passed dmiss (m .clock) between)) (m .counts))
-      decayed = map-twice _ _ _ (λ z. ap (λ (k : ℕ). decayedBy k z) (split dmiss) ∙ decayed-add _ _ z) (m .counts)
+      decayed = map-added decayedBy decayed-add _ _ _ (split dmiss) (m .counts)
 
       last : max (m .clock) time ≡ max (max (m .clock) between) time
       last = omega arith

@@ -1,15 +1,15 @@
 -- What refusal 2 leaves: tables that are not refused have 2 ^ a records and four times 2 ^ b entries, within their limits; and such
 -- tables are not refused.
 -- Assumes nothing.
-use mathlib.Core.Path.{_≡_, refl, sym, ap, _∙_}
 use mathlib.Core.Bool.{Bool, true, false, not, _||_, or-true}
 use mathlib.Core.List.{map}
+use mathlib.Core.Path.{_≡_, refl, sym, ap, _∙_}
 use Prim.Native.Nat.{ℕ, zero, suc, _+_, _*_, _^_, _≤_, _<_}
 use native.Mathlib.Omega.{arith}
 use lib.Dec.{eqb}
 use borrow.Author.Tests.{eqb-true, eq-eqb, not-false}
-use Rattle.laws.specs.Choice.{among}
 use Rattle.laws.proofs.Tests.{or-left, or-right, or-no, true-is-not-false, Which, below, above, which}
+use Rattle.laws.specs.Choice.{among}
 use Rattle.tables.specs.Sizes.{powersFrom, recordSizes, entrySizes, badSizes}
 
 -- n is a power of two, with an exponent from k on and below k + more

@@ -1,7 +1,7 @@
 -- `counts::decay_all` meets its contract: one sweep, and none where no multiple was passed.
 -- Assumes nothing.
-use mathlib.Core.Path.{sym, ap, _∙_}
-use Prim.Native.Nat.{ℕ, _-_}
+use mathlib.Core.Path.{sym, _∙_}
+use Prim.Native.Nat.{_-_}
 use native.Mathlib.Omega.{arith}
 use lib.IntN.{pos}
 use lib.ListN.{length}
@@ -9,7 +9,7 @@ use denote.Ref.{now}
 use mir.Syntax.{w16}
 use mir.ValLaws.{toZ-ofZ}
 use borrow.Author.Needs.{needs}
-use Rattle.laws.proofs.Sweep.{Sweeping, sweep-start, sweep-turn, sweep-end, map-same}
+use Rattle.laws.proofs.Sweep.{Sweeping, sweep-start, sweep-turn, sweep-end, map-none}
 use Rattle.counts.proofs.Counts.{decayed-none, in-steps}
 use Rattle.counts.proofs.fallen.Reads as fallen-reads
 use Rattle.counts.proofs.steps_of.Reads as steps-of-reads
@@ -26,7 +26,7 @@ abbrev μ-loop : tie.MeasureT-loop
 returns : tie.Need-returns Inv-loop μ-loop
 returns c =
     let s = c .before in
-    sym (map-same _ (λ z. ap (λ (m : ℕ). decayedBy m z) (c .if1 .taken) ∙ decayed-none z) (now (s .args .counts)))
+    sym (map-none decayedBy decayed-none (s .args .multiples) (c .if1 .taken) (now (s .args .counts)))
 
 steps-of-requires : tie.Need-steps-of-requires Inv-loop μ-loop
 steps-of-requires c κs = search needs

@@ -1,7 +1,7 @@
 -- `records::age_all` meets its contract: one sweep, and none where no boundary was passed.
 -- Assumes nothing.
-use Prim.Native.Nat.{ℕ, _-_}
-use Rattle.laws.proofs.Sweep.{Sweeping, sweep-start, sweep-turn, sweep-end, map-same, map-alike}
+use Prim.Native.Nat.{_-_}
+use Rattle.laws.proofs.Sweep.{Sweeping, sweep-start, sweep-turn, sweep-end, map-none, map-alike}
 use Rattle.records.proofs.Ages.{aged-none, in-bytes}
 use Rattle.records.proofs.older.Reads as older-reads
 use Rattle.records.proofs.oldest_kept.Reads as oldest-kept-reads
@@ -10,7 +10,7 @@ use Rattle.records.specs.Records.{agedBy}
 use borrow.Author.Needs.{needs}
 use denote.Ref.{now}
 use lib.ListN.{length}
-use mathlib.Core.Path.{sym, ap, _∙_}
+use mathlib.Core.Path.{sym, _∙_}
 use native.Mathlib.Omega.{arith}
 use Rattle.records.proofs.age_all.Statement.{statement}
 use Rattle.records.proofs.age_all.Tie as tie
@@ -24,7 +24,7 @@ abbrev μ-loop : tie.MeasureT-loop
 returns : tie.Need-returns Inv-loop μ-loop
 returns c =
     let s = c .before .before in
-    sym (map-same _ (λ b. ap (λ (m : ℕ). agedBy (s .args .dconn) m b) (c .if1 .taken) ∙ aged-none (s .args .dconn) b) (now (s .args .records)))
+    sym (map-none (agedBy (s .args .dconn)) (aged-none (s .args .dconn)) (s .args .minutes) (c .if1 .taken) (now (s .args .records)))
 
 steps-of-requires : tie.Need-steps-of-requires Inv-loop μ-loop
 steps-of-requires c κs = search needs
