@@ -14,6 +14,7 @@ use borrow.Rule.Slice.PartMut.{midOf, putMid, set-mid-at, mid-len}
 use Rattle.laws.proofs.Search.{Leading, lead-is}
 use Rattle.laws.proofs.Signed.{by-smallness}
 use Rattle.laws.proofs.Tests.{Which, below, above, which, or-left, or-right, cond-at}
+use Rattle.entries.specs.declared.Room.{Room}
 use Rattle.entries.specs.Entries.{lineOf, lacksLine, ownWay, emptyWay, smallestWay, roomOf, roomFor, writtenOf, written}
 use Rattle.entries.specs.declared.Replaced.the-variants.{Nothing, Tag}
 use Rattle.entries.specs.declared.Replaced.{Replaced}
@@ -42,12 +43,13 @@ module _ (tag : ℕ) (tags : List ℕ) (counts : List ℤ) where
   unfolding roomFor
   room-own own e h = rw (← e) (sym (cond-at _ _ (lt-ltb own 4 h)))
 
-  pub room-empty : (own empty : ℕ) → own ≡ ownWay tag tags counts → 4 ≤ own → empty ≡ emptyWay counts → empty < 4 → roomOf empty Nothing ≡ roomFor tag tags counts
+  pub room-empty : (own empty : ℕ) → own ≡ ownWay tag tags counts → 4 ≤ own → empty ≡ emptyWay counts → empty < 4
+      → roomOf empty Nothing ≡ roomFor tag tags counts
   unfolding roomFor
   room-empty own empty e h q k = rw (← e, ← q) (sym (cond-at _ _ (le-ltb own 4 h) ∙ cond-at _ _ (lt-ltb empty 4 k)))
 
-  pub room-smallest : (own empty smallest : ℕ) → own ≡ ownWay tag tags counts → 4 ≤ own → empty ≡ emptyWay counts → 4 ≤ empty → smallest ≡ smallestWay counts
-      → roomOf smallest (Tag (getD tags smallest 0)) ≡ roomFor tag tags counts
+  pub room-smallest : (own empty smallest : ℕ) → own ≡ ownWay tag tags counts → 4 ≤ own → empty ≡ emptyWay counts → 4 ≤ empty
+      → smallest ≡ smallestWay counts → roomOf smallest (Tag (getD tags smallest 0)) ≡ roomFor tag tags counts
   unfolding roomFor
   room-smallest own empty smallest e h q k s = rw (← e, ← q, ← s) (sym (cond-at _ _ (le-ltb own 4 h) ∙ cond-at _ _ (le-ltb empty 4 k)))
 
@@ -65,43 +67,51 @@ module _ (tag : ℕ) (tags : List ℕ) (counts : List ℤ) where
 
 -- ---- a line of the table
 -- lists that do not lack the line reach to its end
-pub has-line : (line : ℕ) (tags : List ℕ) (counts : List ℤ) → lacksLine line tags counts ≡ false → (4 * line + 4 ≤ length tags) × (4 * line + 4 ≤ length counts)
+pub has-line : (line : ℕ) (tags : List ℕ) (counts : List ℤ) → lacksLine line tags counts ≡ false
+    → (4 * line + 4 ≤ length tags) × (4 * line + 4 ≤ length counts)
 has-line line tags counts e =
     let s = ltb (length tags) (4 * line + 4) in
     let t = ltb (length counts) (4 * line + 4) in
     (ltb-false _ _ (or-left s t e), ltb-false _ _ (or-right s t e))
 
--- the part that is lent, as the borrow rules name it, is the line
-pub part-is : {A : Type 0} (line : ℕ) (xs : List A) → midOf (4 * line) (4 * line + 4 - 4 * line) xs ≡ lineOf line xs
-part-is line xs =
-    let four : 4 * line + 4 - 4 * line ≡ 4 = omega arith in
-    ap (λ (k : ℕ). take k (drop (4 * line) xs)) four
+-- the part that is lent for writing, and the list when it is given back, as the borrow rules name them
+module _ {A : Type 0} (line : ℕ) (list : List A) where
+  abbrev pub lent : List A
+  lent = midOf (4 * line) (4 * line + 4 - 4 * line) list
 
--- and has four entries
-pub line-length : {A : Type 0} (line : ℕ) (xs : List A) → 4 * line + 4 ≤ length xs → length (lineOf line xs) ≡ 4
-line-length line xs h = sym (ap length (part-is line xs)) ∙ mid-len (4 * line) (4 * line + 4) xs h ∙ omega arith
+  abbrev pub given-back : List A → List A
+  given-back part = putMid (4 * line) (4 * line + 4 - 4 * line) list part
 
--- a line given back with one entry set is the table with that entry set
-given-back : {A : Type 0} (line way : ℕ) (xs ys : List A) (v : A) → 4 * line + 4 ≤ length xs → way < 4 → ys ≡ set (midOf (4 * line) (4 * line + 4 - 4 * line) xs) way v
-    → putMid (4 * line) (4 * line + 4 - 4 * line) xs ys ≡ set xs (4 * line + way) v
-given-back line way xs ys v h l e =
-    ap (putMid (4 * line) (4 * line + 4 - 4 * line) xs) e
-    ∙ set-mid-at (4 * line) (4 * line + 4 - 4 * line) way xs v (omega (arith, mid-len (4 * line) (4 * line + 4) xs h))
+  -- the part is the line, and has four entries
+  pub lent-is : lent ≡ lineOf line list
+  lent-is =
+      let four : 4 * line + 4 - 4 * line ≡ 4 = omega arith in
+      ap (λ (k : ℕ). take k (drop (4 * line) list)) four
 
--- what the writer did to a line, and what that is to the table
-pub line-written : (line tag : ℕ) (count : ℤ) (tags ts : List ℕ) (counts cs : List ℤ) (r : Replaced) → lacksLine line tags counts ≡ false
-    → let part = roomFor tag (midOf (4 * line) (4 * line + 4 - 4 * line) tags) (midOf (4 * line) (4 * line + 4 - 4 * line) counts) in
-    (r ≡ part .replaced)
-    × (ts ≡ set (midOf (4 * line) (4 * line + 4 - 4 * line) tags) (part .way) tag)
-    × (cs ≡ set (midOf (4 * line) (4 * line + 4 - 4 * line) counts) (part .way) count)
-    → writtenOf r (putMid (4 * line) (4 * line + 4 - 4 * line) tags ts) (putMid (4 * line) (4 * line + 4 - 4 * line) counts cs) ≡ written line tag count tags counts
-unfolding written
-line-written line tag count tags ts counts cs r e w =
-    let h = has-line line tags counts e in
-    (λ i. writtenOf (w .0 i) (given-back line _ tags ts tag (h .0) (room-lt tag _ _) (w .1) i) (given-back line _ counts cs count (h .1) (room-lt tag _ _) (w .2) i))
-    ∙ (λ i. writtenOf (room i .replaced) (set tags (4 * line + room i .way) tag) (set counts (4 * line + room i .way) count))
-    ∙ sym (cond-at _ _ e)
-  where
-    room : roomFor tag (midOf (4 * line) (4 * line + 4 - 4 * line) tags) (midOf (4 * line) (4 * line + 4 - 4 * line) counts)
-        ≡ roomFor tag (lineOf line tags) (lineOf line counts)
-    room = λ i. roomFor tag (part-is line tags i) (part-is line counts i)
+  pub line-length : 4 * line + 4 ≤ length list → length (lineOf line list) ≡ 4
+  line-length h = sym (ap length lent-is) ∙ mid-len (4 * line) (4 * line + 4) list h ∙ omega arith
+
+  -- given back with one entry set, it is the list with that entry set
+  back-is : (way : ℕ) (v : A) (part : List A) → 4 * line + 4 ≤ length list → way < 4 → part ≡ set lent way v → given-back part ≡ set list (4 * line + way) v
+  back-is way v part h low e =
+      ap given-back e
+      ∙ set-mid-at (4 * line) (4 * line + 4 - 4 * line) way list v (omega (arith, mid-len (4 * line) (4 * line + 4) list h))
+
+-- what the writer did to a line is what `written` does to the table
+module _ (line tag : ℕ) (count : ℤ) (tags : List ℕ) (counts : List ℤ) where
+  abbrev here : Room
+  here = roomFor tag (lent line tags) (lent line counts)
+
+  pub line-written : (r : Replaced) (ts : List ℕ) (cs : List ℤ) → lacksLine line tags counts ≡ false
+      → (r ≡ here .replaced) × (ts ≡ set (lent line tags) (here .way) tag) × (cs ≡ set (lent line counts) (here .way) count)
+      → writtenOf r (given-back line tags ts) (given-back line counts cs) ≡ written line tag count tags counts
+  unfolding written
+  line-written r ts cs e w =
+      let h = has-line line tags counts e in
+      let low = room-lt tag (lent line tags) (lent line counts) in
+      (λ i. writtenOf (w .0 i) (back-is line tags (here .way) tag ts (h .0) low (w .1) i) (back-is line counts (here .way) count cs (h .1) low (w .2) i))
+      ∙ (λ i. writtenOf (there i .replaced) (set tags (4 * line + there i .way) tag) (set counts (4 * line + there i .way) count))
+      ∙ sym (cond-at _ _ e)
+    where
+      there : here ≡ roomFor tag (lineOf line tags) (lineOf line counts)
+      there = λ i. roomFor tag (lent-is line tags i) (lent-is line counts i)

@@ -47,7 +47,9 @@ module _ (tag : ℕ) (tags : List ℕ) (counts : List ℤ) where
 
   -- an entry with another tag is not the tag's, nor is an empty one
   other-tag : (t way : ℕ) → (getD tags way 0 ≡ t → ⊥) → isOwn t tags counts way ≡ false
-  other-tag t way ne = ap (λ (b : Bool). not (isEmpty (getD counts way (pos 0))) && b) (ne-eqb _ t ne) ∙ and-false (not (isEmpty (getD counts way (pos 0))))
+  other-tag t way ne =
+      let full = not (isEmpty (getD counts way (pos 0))) in
+      ap (λ (b : Bool). full && b) (ne-eqb _ t ne) ∙ and-false full
 
   no-entry : (t way : ℕ) → isEmpty (getD counts way (pos 0)) ≡ true → isOwn t tags counts way ≡ false
   no-entry t way e = ap (λ (b : Bool). not b && eqb (getD tags way 0) t) e
@@ -82,7 +84,8 @@ module _ (tags : List ℕ) (counts : List ℤ) (way tag : ℕ) (count : ℤ) (in
   set-there t j ne = λ i. not (isEmpty (getD-set-other counts way j count (pos 0) ne i)) && eqb (getD-set-other tags way j tag 0 ne i) t
 
   -- the tag's count is then the one that was set
-  own-read : way < 4 → ((j : ℕ) → j < way → isOwn tag tags counts j ≡ false) → isEmpty count ≡ false → countIn tag (set tags way tag) (set counts way count) ≡ count
+  own-read : way < 4 → ((j : ℕ) → j < way → isOwn tag tags counts j ≡ false) → isEmpty count ≡ false
+      → countIn tag (set tags way tag) (set counts way count) ≡ count
   unfolding countIn ownWay
   own-read h none full =
       rw here (cond-at _ _ (lt-ltb way 4 h) ∙ getD-set-same counts way count (pos 0) in-counts)

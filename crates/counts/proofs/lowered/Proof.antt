@@ -15,7 +15,8 @@ use Rattle.counts.proofs.lowered.Statement.{statement}
 use Rattle.counts.proofs.lowered.Tie as tie
 
 -- what the machine makes in 32 bits is the difference of the numbers
-plain : (c : tie.Start) → toZ w32 (ofZ w32 (toZ w16 (ofZ w16 (c .args .count)))) -ℤ toZ w32 (c .args .points) ≡ c .args .count -ℤ pos (c .args .points)
+plain : (c : tie.Start) → toZ w32 (ofZ w32 (toZ w16 (ofZ w16 (c .args .count)))) -ℤ toZ w32 (c .args .points)
+    ≡ c .args .count -ℤ pos (c .args .points)
 plain c = λ i. wide-is (c .fits .count) i -ℤ toZ-pos w32 (c .args .points) (omega arith) i
 
 cast-left : tie.Need-cast-left
@@ -28,7 +29,8 @@ sub-left : tie.Need-sub-left
 sub-left c = rw (plain c) (sfits-out _ (omega (signed, difference-is (c .args .count) (pos (c .args .points)), known (c .fits .count))))
 
 -- and so is the local that holds it
-left-is : (c : tie.Start) → toZ w32 (ofZ w32 (toZ w32 (ofZ w32 (toZ w16 (ofZ w16 (c .args .count)))) -ℤ toZ w32 (c .args .points))) ≡ c .args .count -ℤ pos (c .args .points)
+left-is : (c : tie.Start) → toZ w32 (ofZ w32 (toZ w32 (ofZ w32 (toZ w16 (ofZ w16 (c .args .count)))) -ℤ toZ w32 (c .args .points)))
+    ≡ c .args .count -ℤ pos (c .args .points)
 left-is c = toZ-ofZ w32 _ (sub-left c) ∙ plain c
 
 cast-if1 : tie.Need-cast-if1

@@ -15,7 +15,8 @@ use Rattle.counts.proofs.raised.Statement.{statement}
 use Rattle.counts.proofs.raised.Tie as tie
 
 -- what the machine makes in 32 bits is the sum of the numbers
-plain : (c : tie.Start) → toZ w32 (ofZ w32 (toZ w16 (ofZ w16 (c .args .count)))) +ℤ toZ w32 (c .args .points) ≡ c .args .count +ℤ pos (c .args .points)
+plain : (c : tie.Start) → toZ w32 (ofZ w32 (toZ w16 (ofZ w16 (c .args .count)))) +ℤ toZ w32 (c .args .points)
+    ≡ c .args .count +ℤ pos (c .args .points)
 plain c = λ i. wide-is (c .fits .count) i +ℤ toZ-pos w32 (c .args .points) (omega arith) i
 
 cast-sum : tie.Need-cast-sum
@@ -28,7 +29,8 @@ add-sum : tie.Need-add-sum
 add-sum c = rw (plain c) (sfits-out _ (omega (signed, sum-is (c .args .count) (pos (c .args .points)), known (c .fits .count))))
 
 -- and so is the local that holds it
-total-is : (c : tie.Start) → toZ w32 (ofZ w32 (toZ w32 (ofZ w32 (toZ w16 (ofZ w16 (c .args .count)))) +ℤ toZ w32 (c .args .points))) ≡ c .args .count +ℤ pos (c .args .points)
+total-is : (c : tie.Start) → toZ w32 (ofZ w32 (toZ w32 (ofZ w32 (toZ w16 (ofZ w16 (c .args .count)))) +ℤ toZ w32 (c .args .points)))
+    ≡ c .args .count +ℤ pos (c .args .points)
 total-is c = toZ-ofZ w32 _ (add-sum c) ∙ plain c
 
 returns : tie.Need-returns

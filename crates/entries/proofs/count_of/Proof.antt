@@ -6,7 +6,7 @@ use mir.Syntax.{w16}
 use mir.ValLaws.{toZ-ofZ}
 use borrow.Author.Needs.{needs}
 use Rattle.laws.proofs.Tests.{cond-at}
-use Rattle.entries.proofs.Lines.{has-line, part-is}
+use Rattle.entries.proofs.Lines.{has-line, lent-is}
 use Rattle.entries.proofs.count_in.Reads as count-in-reads
 use Rattle.entries.specs.Entries.{countIn, countOf}
 use Rattle.entries.proofs.count_of.Statement.{statement}
@@ -71,7 +71,7 @@ returns-2 c =
     let s = w .before .before in
     toZ-ofZ w16 _ (record { sfits = c .count-in .ok })
     ∙ c .count-in .ensures
-    ∙ (λ i. countIn (s .args .tag) (part-is (s .args .line) (now (s .args .tags)) i) (part-is (s .args .line) (now (s .args .counts)) i))
+    ∙ (λ i. countIn (s .args .tag) (lent-is (s .args .line) (now (s .args .tags)) i) (lent-is (s .args .line) (now (s .args .counts)) i))
     ∙ sym (cond-at _ _ (w .if1 .left))
 
 pub count-of-spec : {M : Type 1} → statement M

@@ -34,7 +34,8 @@ is-empty-requires : tie.Need-is-empty-requires Inv-loop μ-loop
 is-empty-requires c κs = search needs
 
 -- what was tested is the way's count
-tested : (c : tie.After-is-empty Inv-loop μ-loop) → let w = c .before .before .before in isEmpty (getD (now (w .before .args .counts)) (w .loop .way) (pos 0)) ≡ c .is-empty .result
+tested : (c : tie.After-is-empty Inv-loop μ-loop) → let w = c .before .before .before in
+    isEmpty (getD (now (w .before .args .counts)) (w .loop .way) (pos 0)) ≡ c .is-empty .result
 tested c = ap isEmpty (sym (toZ-ofZ w16 _ (record { sfits = c .before .is-empty-arg .given }))) ∙ sym (c .is-empty .ensures)
 
 returns : tie.Need-returns Inv-loop μ-loop

@@ -42,7 +42,8 @@ shared-slice-read-if1 c = search needs
 
 -- what was tested is whether the way's entry is the tag's
 tested : (c : tie.After-shared-slice-known2 Inv-loop μ-loop) → let w = c .before .before .before .before in let s = w .before .before in
-    isOwn (s .args .tag) (now (s .args .tags)) (now (s .args .counts)) (w .loop .way) ≡ (not (c .before .is-empty .result) && eqb (getD (now (s .args .tags)) (w .loop .way) 0) (s .args .tag))
+    isOwn (s .args .tag) (now (s .args .tags)) (now (s .args .counts)) (w .loop .way)
+    ≡ (not (c .before .is-empty .result) && eqb (getD (now (s .args .tags)) (w .loop .way) 0) (s .args .tag))
 tested c =
     let w = c .before .before .before .before in
     let s = w .before .before in

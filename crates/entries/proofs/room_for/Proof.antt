@@ -43,7 +43,8 @@ shared-slice-read-t12 c =
 returns-3 : tie.Need-returns-3
 returns-3 c =
     let w = c .before .before .before .before in
-    room-smallest _ _ _ _ _ _ (w .before .own-way .ensures) (w .if1 .left) (c .before .before .before .empty-way .ensures) (c .before .before .if2 .left) (c .before .smallest-way .ensures)
+    let v = c .before .before in
+    room-smallest _ _ _ _ _ _ (w .before .own-way .ensures) (w .if1 .left) (v .before .empty-way .ensures) (v .if2 .left) (c .before .smallest-way .ensures)
 
 pub room-for-spec : {M : Type 1} → statement M
 room-for-spec =

@@ -75,7 +75,7 @@ returns-2 c =
     let w = c .before .before .before in
     let e = w .before .before .before in
     let s = e .before .before in
-    line-written (s .args .line) (s .args .tag) (s .args .count) (now (s .args .tags)) _ (now (s .args .counts)) _ _ (e .if1 .left)
+    line-written (s .args .line) (s .args .tag) (s .args .count) (now (s .args .tags)) (now (s .args .counts)) _ _ _ (e .if1 .left)
     (rw (toZ-ofZ w16 _ (s .fits .count)) at (w .write-entry .ensures))
 
 pub write-spec : {M : Type 1} → statement M
