@@ -1,4 +1,4 @@
--- Laws of counts, said in the two naturals of a signed number (`up`, `dn`), for `omega`; and that several multiples of Dmiss add up.
+-- Laws of counts, said in the two naturals of a signed number (`up`, `dn`), for `omega`; and that several points of decay add up.
 -- Assumes nothing.
 use mathlib.Core.Path.{_≡_, refl, ap, _∙_}
 use mathlib.Core.Bool.{Bool, true, false, cond}
@@ -6,16 +6,16 @@ use Prim.Native.Nat.{ℕ, zero, suc, _+_, _-_, _<_, min}
 use native.Mathlib.Omega.{arith}
 use lib.Dec.{eqb}
 use borrow.Author.Tests.{ne-eqb}
-use lib.IntN.{ℤ, pos, negsuc, _-ℤ_}
-use lib.Signed.{ltZ}
+use lib.IntN.{ℤ, pos, negsuc, _+ℤ_, _-ℤ_}
+use lib.Signed.{leZ, ltZ}
 use mir.Syntax.{w16, w32}
 use mir.Val.{SFits, toZ, ofZ}
 use mir.ValLaws.{toZ-ofZ}
-use Rattle.laws.proofs.Tests.{eqb-same}
-use Rattle.laws.proofs.Signed.{up, dn, signed, known, sfits-out, ltZ-true, ltZ-false, difference-is, one-part}
+use Rattle.laws.proofs.Tests.{eqb-same, cond-at}
+use Rattle.laws.proofs.Signed.{up, dn, signed, known, sfits-out, ltZ-true, ltZ-false, leZ-yes, sum-is, difference-is, one-part}
 use Rattle.laws.specs.Times.{times}
 use Rattle.laws.proofs.Times.{times-none, times-more, times-add}
-use Rattle.counts.specs.Counts.{isEmpty, multiplePassed, decayedBy}
+use Rattle.counts.specs.Counts.{isEmpty, larger, smaller, raisedBy, pointLess, decayedBy}
 
 -- the bits of -32,768 are those of no other count
 pub empty-bits : (z : ℤ) → SFits w16 z → eqb (ofZ w16 z) 32768 ≡ isEmpty z
@@ -30,22 +30,35 @@ wider f = sfits-out _ (omega (signed, known f))
 pub wide-is : {z : ℤ} → SFits w16 z → toZ w32 (ofZ w32 (toZ w16 (ofZ w16 z))) ≡ z
 wide-is {z} f = toZ-ofZ w32 (toZ w16 (ofZ w16 z)) (wider f) ∙ toZ-ofZ w16 z f
 
--- ---- multiples of Dmiss
+-- ---- raised
+-- where the ceiling has room, the count is raised by all its points
+pub raised-within : (points : ℕ) (ceiling count : ℤ) → leZ (count +ℤ pos points) ceiling ≡ true → raisedBy points ceiling count ≡ count +ℤ pos points
+unfolding larger smaller
+raised-within points ceiling count e =
+    ap (larger count) (cond-at (count +ℤ pos points) ceiling e)
+    ∙ cond-at (count +ℤ pos points) count (leZ-yes count (count +ℤ pos points) (omega (arith, sum-is count (pos points))))
+
+-- and where it has none, to the ceiling, unless it was above
+pub raised-over : (points : ℕ) (ceiling count : ℤ) → leZ (count +ℤ pos points) ceiling ≡ false → raisedBy points ceiling count ≡ larger count ceiling
+unfolding smaller
+raised-over points ceiling count e = ap (larger count) (cond-at (count +ℤ pos points) ceiling e)
+
+-- ---- points of decay
 pub decayed-none : (z : ℤ) → decayedBy 0 z ≡ z
 unfolding decayedBy
-decayed-none z = times-none multiplePassed z
+decayed-none z = times-none pointLess z
 
 pub decayed-add : (m n : ℕ) (z : ℤ) → decayedBy (m + n) z ≡ decayedBy n (decayedBy m z)
 unfolding decayedBy
-decayed-add m n z = times-add multiplePassed m n z
+decayed-add m n z = times-add pointLess m n z
 
 -- the positive part falls by n, stopping at 0, and the other stays
 pub record Fell (n : ℕ) (z y : ℤ) : Type 0 where
   pub up-fell : up y ≡ up z - n
   pub dn-same : dn y ≡ dn z
 
-one-fell : (z : ℤ) → Fell 1 z (multiplePassed z)
-unfolding multiplePassed
+one-fell : (z : ℤ) → Fell 1 z (pointLess z)
+unfolding pointLess
 one-fell z = go (ltZ (pos 0) z) refl
   where
     go : (t : Bool) → ltZ (pos 0) z ≡ t → Fell 1 z (cond t (z -ℤ pos 1) z)
@@ -58,11 +71,11 @@ one-fell z = go (ltZ (pos 0) z) refl
 
 pub fell : (n : ℕ) (z : ℤ) → Fell n z (decayedBy n z)
 unfolding decayedBy
-fell zero z = rw (times-none multiplePassed z) (record { up-fell = omega arith; dn-same = refl })
+fell zero z = rw (times-none pointLess z) (record { up-fell = omega arith; dn-same = refl })
 fell (suc n) z =
     let before = fell n z in
-    let last = one-fell (times n multiplePassed z) in
-    rw (times-more multiplePassed n z) (record { up-fell = omega (arith, before, last); dn-same = last .dn-same ∙ before .dn-same })
+    let last = one-fell (times n pointLess z) in
+    rw (times-more pointLess n z) (record { up-fell = omega (arith, before, last); dn-same = last .dn-same ∙ before .dn-same })
 
 -- no count is over 32,767, so that as many steps do what more of them do; `s` and `z` as the machine has them
 pub in-steps : (m : ℕ) {s : ℕ} {z : ℤ} → SFits w16 z → s ≡ min m 32767 → decayedBy s (toZ w16 (ofZ w16 z)) ≡ decayedBy m z

@@ -1,4 +1,4 @@
-// The counts of the address table: signed 16-bit numbers, one to an entry. No function here can overflow, whatever the count.
+// The counts of the address table: signed 16-bit numbers, one to an entry. Nothing here overflows, whatever the count.
 ghost use mathlib.Core.Path.{_≡_};
 ghost use mathlib.Core.List.{map};
 ghost use Prim.Native.Nat.{min};
@@ -29,29 +29,28 @@ pub fn lowered(count: i16, points: u8, floor: i16) -> i16
     left as i16
 }
 
-// A count and the points of a fresh contact.
-pub fn raised(count: i16, points: u8) -> i16
-    ensures { λ r. ⌜ r ≡ raisedBy points count ⌝ }
+// A count and the points of a fresh contact, up to a ceiling. A count above the ceiling stays.
+pub fn raised(count: i16, points: u8, ceiling: i16) -> i16
+    ensures { λ r. ⌜ r ≡ raisedBy points ceiling count ⌝ }
 {
     let sum = (count as i32) + (points as i32);
-    if 32767 < sum {
-        return 32767;
+    if sum <= (ceiling as i32) {
+        return sum as i16;
     }
-    sum as i16
+    if count <= ceiling {
+        return ceiling;
+    }
+    count
 }
 
-// So many multiples of Dmiss as a count can tell apart: none is higher than 32,767.
-fn steps_of(multiples: u32) -> u16
-    ensures { λ r. ⌜ r ≡ min multiples 32767 ⌝ }
+// So many points as a count can tell apart: none is higher than 32,767.
+fn steps_of(points: u64) -> u16
+    ensures { λ r. ⌜ r ≡ min points 32767 ⌝ }
 {
-    if multiples < 32767 {
-        multiples as u16
-    } else {
-        32767
-    }
+    if points < 32767 { points as u16 } else { 32767 }
 }
 
-// A positive count less so many steps, stopping at 0; any other stays. All in 16 bits, so that a sweep takes many counts at once.
+// A positive count less so many points, stopping at 0; any other stays. All in 16 bits, so that a sweep takes many counts at once.
 fn fallen(count: i16, steps: u16) -> i16
     ensures { λ r. ⌜ r ≡ decayedBy steps count ⌝ }
 {
@@ -65,21 +64,21 @@ fn fallen(count: i16, steps: u16) -> i16
     (high - steps) as i16
 }
 
-// A count after so many multiples of Dmiss.
-pub fn decayed(count: i16, multiples: u32) -> i16
-    ensures { λ r. ⌜ r ≡ decayedBy multiples count ⌝ }
+// What a count would be after a decay by so many points, for one who leaves the table as it is.
+pub fn decayed(count: i16, points: u64) -> i16
+    ensures { λ r. ⌜ r ≡ decayedBy points count ⌝ }
 {
-    fallen(count, steps_of(multiples))
+    fallen(count, steps_of(points))
 }
 
-// Every count after so many multiples of Dmiss. With none, none is touched.
-pub fn decay_all(counts: &mut [i16], multiples: u32)
-    ensures { λ _. ⌜ now (counts .exit) ≡ map (decayedBy multiples) (now (counts .entry)) ⌝ }
+// Decays every count by so many points. By none, none is touched.
+pub fn decay_all(counts: &mut [i16], points: u64)
+    ensures { λ _. ⌜ now (counts .exit) ≡ map (decayedBy points) (now (counts .entry)) ⌝ }
 {
-    if multiples == 0 {
+    if points == 0 {
         return;
     }
-    let steps = steps_of(multiples);
+    let steps = steps_of(points);
     let mut i = 0;
     while i < counts.len() {
         counts[i] = fallen(counts[i], steps);

@@ -1,4 +1,5 @@
--- The room for an entry is one of its line's four ways, and what the writer says of the line that it was lent, said of the whole table.
+-- The smallest count of a line and the room for an entry, each one of the four ways; and what the writer says of the line that it was
+-- lent, said of the whole table.
 -- Assumes nothing.
 use mathlib.Core.Bool.{true, false}
 use mathlib.Core.List.{List}
@@ -11,6 +12,7 @@ use lib.ListN.{length, take, drop, set, getD}
 use lib.Signed.{leZ}
 use borrow.Author.Tests.{lt-ltb, le-ltb, ltb-false}
 use borrow.Rule.Slice.PartMut.{midOf, putMid, set-mid-at, mid-len}
+use Rattle.laws.specs.Search.{foremost}
 use Rattle.laws.proofs.Search.{Leading, lead-is}
 use Rattle.laws.proofs.Signed.{by-smallness}
 use Rattle.laws.proofs.Tests.{Which, below, above, which, or-left, or-right, cond-at}
@@ -22,7 +24,7 @@ use Rattle.entries.specs.declared.Replaced.{Replaced}
 -- ---- the smallest count, lowest on a tie
 module _ (counts : List ℤ) where
   leads : Leading (λ a b. leZ b a) (λ way. getD counts way (pos 0)) (smallestWay counts) 4
-  unfolding smallestWay
+  unfolding smallestWay foremost
   leads = lead-is by-smallness (λ way. getD counts way (pos 0)) 3
 
   -- it is one of the four

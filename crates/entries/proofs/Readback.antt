@@ -1,5 +1,6 @@
--- What is read after an entry was written: the count that was written; any other tag's as it was, unless it was the one replaced; and
--- the other lines untouched. For every table, also one that no gateway would write.
+-- What is read after an entry was written: the count that was written, in a line that is there and but for -32,768, which is none; any
+-- other tag's as it was, unless it was the one replaced; and the other lines untouched. For every table, also one that no gateway would
+-- write.
 -- Assumes nothing.
 use mathlib.Core.Bool.{Bool, true, false, not, _&&_, _||_, cond, and-false}
 use mathlib.Core.List.{List}
@@ -17,10 +18,23 @@ use Rattle.laws.proofs.Search.{first-at, first-is, first-same}
 use Rattle.laws.proofs.Tests.{Which, below, above, which, true-is-not-false, and-right, cond-at}
 use Rattle.laws.specs.Search.{firstBelow}
 use Rattle.counts.specs.Counts.{isEmpty}
-use Rattle.entries.proofs.Lines.{room-own, room-empty, room-smallest, room-lt, has-line, line-length}
-use Rattle.entries.specs.Entries.{lineOf, lacksLine, isOwn, ownWay, emptyWay, countIn, countOf, roomFor, Written, writtenOf, written}
+use Rattle.entries.proofs.Lines.{smallest-lt, room-own, room-empty, room-smallest, room-lt, has-line, line-length}
+use Rattle.entries.specs.Entries.{lineOf, lacksLine, isOwn, ownWay, emptyWay, smallestWay, countIn, countOf, roomFor, Written, writtenOf, written}
+use Rattle.entries.specs.declared.Replaced.{Replaced}
 use Rattle.entries.specs.declared.Replaced.the-variants.{Nothing, Tag}
 use Rattle.entries.specs.declared.Room.{Room}
+
+-- ---- what is told
+abbrev tag-told : Replaced → ℕ
+tag-told Nothing = 0
+tag-told (Tag t) = t
+
+abbrev is-told : Replaced → Bool
+is-told Nothing = false
+is-told (Tag t) = true
+
+nothing-is-no-tag : {t : ℕ} → Nothing ≡ Tag t → ⊥
+nothing-is-no-tag e = true-is-not-false refl (ap is-told (sym e))
 
 -- ---- in a line
 module _ (tag : ℕ) (tags : List ℕ) (counts : List ℤ) where
@@ -71,6 +85,29 @@ module _ (tag : ℕ) (tags : List ℕ) (counts : List ℤ) where
           let own = ownWay tag tags counts in
           let mine = eqb-true (getD tags own 0) tag (and-right (not (isEmpty (getD counts own (pos 0)))) (eqb (getD tags own 0) tag) (at-own h)) in
           subst goal (room-own tag tags counts _ refl h) (λ n. other-tag t _ (λ e. ne (sym e ∙ mine))) told
+      own (above h) = empty h (which (emptyWay counts) 4)
+
+  before-empty : (j : ℕ) → j < emptyWay counts → isEmpty (getD counts j (pos 0)) ≡ false
+  unfolding emptyWay
+  before-empty j l = first-is 4 (λ way. isEmpty (getD counts way (pos 0))) .before j l
+
+  -- the tag that is replaced is another: one with an entry of its own is written there
+  replaced-in : (t : ℕ) → roomFor tag tags counts .replaced ≡ Tag t → t ≢ tag
+  replaced-in t told same = own (which (ownWay tag tags counts) 4)
+    where
+      clash : (way : ℕ) → way < 4 → 4 ≤ ownWay tag tags counts → 4 ≤ emptyWay counts → getD tags way 0 ≡ t → ⊥
+      clash way l h k e =
+          let full = before-empty way (omega arith) in
+          true-is-not-false (λ i. not (full i) && eq-eqb (getD tags way 0) tag (e ∙ same) i) (before-own way (omega arith))
+
+      empty : 4 ≤ ownWay tag tags counts → Which (emptyWay counts) 4 → ⊥
+      empty h (below k) = nothing-is-no-tag (rw (← (room-empty tag tags counts _ _ refl h refl k)) at told)
+      empty h (above k) =
+          clash (smallestWay counts) (smallest-lt counts) h k
+          (ap tag-told (rw (← (room-smallest tag tags counts _ _ _ refl h refl k refl)) at told))
+
+      own : Which (ownWay tag tags counts) 4 → ⊥
+      own (below h) = nothing-is-no-tag (rw (← (room-own tag tags counts _ refl h)) at told)
       own (above h) = empty h (which (emptyWay counts) 4)
 
 -- a line with one entry set
@@ -163,6 +200,16 @@ module _ (line tag : ℕ) (count : ℤ) (tags : List ℕ) (counts : List ℤ) wh
   unfolding written
   something e = cond-at _ _ e
 
+  -- so what holds of both holds of what a write leaves
+  cases : (P : Written → Type 0) → P (writtenOf Nothing tags counts)
+      → (lacksLine line tags counts ≡ false → P (writtenOf (room .replaced) (set tags (4 * line + room .way) tag) (set counts (4 * line + room .way) count)))
+      → P after
+  cases P none some = go (lacksLine line tags counts) refl
+    where
+      go : (b : Bool) → lacksLine line tags counts ≡ b → P after
+      go true e = subst P (sym (nothing e)) none
+      go false e = subst P (sym (something e)) (some e)
+
   -- then the room is within the line's part of each list
   within : lacksLine line tags counts ≡ false → (room .way < length (lineOf line tags)) × (room .way < length (lineOf line counts))
   within e =
@@ -189,31 +236,35 @@ module _ (line tag : ℕ) (count : ℤ) (tags : List ℕ) (counts : List ℤ) wh
 
   -- any other tag of the line keeps its count unless it was the one replaced
   pub others-keep : (t : ℕ) → t ≢ tag → (after .replaced ≡ Tag t → ⊥) → countOf line t (after .tags) (after .counts) ≡ countOf line t tags counts
-  others-keep t ne told = go (lacksLine line tags counts) refl
-    where
-      go : (b : Bool) → lacksLine line tags counts ≡ b → countOf line t (after .tags) (after .counts) ≡ countOf line t tags counts
-      go true e = rw (nothing e)
-      go false e = rw (something e) (kept t ne e (rw (something e) at told))
+  others-keep t ne =
+      cases (λ w. (w .replaced ≡ Tag t → ⊥) → countOf line t (w .tags) (w .counts) ≡ countOf line t tags counts)
+      (λ told. refl)
+      (λ e told. kept t ne e told)
 
-  -- the other lines are as they were
+  -- the tag told as replaced is never the one that was written
+  pub replaced-is-another : (t : ℕ) → after .replaced ≡ Tag t → t ≢ tag
+  replaced-is-another t =
+      cases (λ w. w .replaced ≡ Tag t → t ≢ tag)
+      (λ told. absurd (nothing-is-no-tag told))
+      (λ e told. replaced-in tag (lineOf line tags) (lineOf line counts) t told)
+
+  -- both lists keep their lengths, and the other lines are as they were
+  pub same-lengths : (length (after .tags) ≡ length tags) × (length (after .counts) ≡ length counts)
+  same-lengths =
+      cases (λ w. (length (w .tags) ≡ length tags) × (length (w .counts) ≡ length counts))
+      (refl, refl)
+      (λ e. (length-set tags _ tag, length-set counts _ count))
+
   pub other-lines : (m : ℕ) → m ≢ line → (lineOf m (after .tags) ≡ lineOf m tags) × (lineOf m (after .counts) ≡ lineOf m counts)
-  other-lines m ne = go (lacksLine line tags counts) refl
-    where
-      go : (b : Bool) → lacksLine line tags counts ≡ b → (lineOf m (after .tags) ≡ lineOf m tags) × (lineOf m (after .counts) ≡ lineOf m counts)
-      go true e = rw (nothing e) (refl, refl)
-      go false e =
-          rw (something e) (other-line m line (room .way) tags tag ne low, other-line m line (room .way) counts count ne low)
-
-  same-lack : (m : ℕ) → lacksLine m (after .tags) (after .counts) ≡ lacksLine m tags counts
-  same-lack m = go (lacksLine line tags counts) refl
-    where
-      go : (b : Bool) → lacksLine line tags counts ≡ b → lacksLine m (after .tags) (after .counts) ≡ lacksLine m tags counts
-      go true e = rw (nothing e)
-      go false e = rw (something e) (same-lines m _ _ tag count tags counts)
+  other-lines m ne =
+      cases (λ w. (lineOf m (w .tags) ≡ lineOf m tags) × (lineOf m (w .counts) ≡ lineOf m counts))
+      (refl, refl)
+      (λ e. (other-line m line (room .way) tags tag ne low, other-line m line (room .way) counts count ne low))
 
   -- so every tag of another line keeps its count
   pub other-lines-keep : (m t : ℕ) → m ≢ line → countOf m t (after .tags) (after .counts) ≡ countOf m t tags counts
   unfolding countOf
   other-lines-keep m t ne =
       let same = other-lines m ne in
-      λ i. cond (same-lack m i) (pos 0) (countIn t (same .0 i) (same .1 i))
+      let long = same-lengths in
+      λ i. cond (ltb (long .0 i) (4 * m + 4) || ltb (long .1 i) (4 * m + 4)) (pos 0) (countIn t (same .0 i) (same .1 i))

@@ -8,7 +8,7 @@ use lib.Dec.{eqb, ltb}
 use lib.IntN.{ℤ, pos}
 use lib.ListN.{length, getD, set, take, drop}
 use lib.Signed.{leZ}
-use Rattle.laws.specs.Search.{firstBelow, foremost}
+use Rattle.laws.specs.Search.{every, firstBelow}
 use Rattle.counts.specs.Counts.{isEmpty}
 use Rattle.entries.specs.declared.Replaced.{Replaced}
 use Rattle.entries.specs.declared.Replaced.the-variants.{Nothing, Tag}
@@ -40,10 +40,11 @@ countIn tag tags counts = cond (ltb (ownWay tag tags counts) 4) (getD counts (ow
 unfoldable pub emptyWay : List ℤ → ℕ
 emptyWay counts = firstBelow 4 (λ way. isEmpty (getD counts way (pos 0)))
 
--- "the way with the smallest count, lowest on a tie"
+-- "the way with the smallest count, lowest on a tie": the first that is at most every other
 unfoldable pub smallestWay : List ℤ → ℕ
-smallestWay counts = foremost (λ a b. leZ b a) (λ way. getD counts way (pos 0)) 4
+smallestWay counts = firstBelow 4 (λ way. every 4 (λ other. leZ (getD counts way (pos 0)) (getD counts other (pos 0))))
 
+-- a way, and the tag that is replaced there
 abbrev pub roomOf : ℕ → Replaced → Room
 roomOf way replaced = record { way = way; replaced = replaced }
 

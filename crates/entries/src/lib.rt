@@ -1,6 +1,8 @@
 // The entries of the address table: a list of tags and a list of counts, four of each to a line.
 ghost use mathlib.Core.Path.{_≡_};
-ghost use Prim.Native.Nat.{_<_};
+ghost use mathlib.Core.Bool.{_||_};
+ghost use Prim.Native.Nat.{_+_, _*_};
+ghost use lib.Dec.{ltb};
 ghost use lib.ListN.{length, set};
 ghost use Rattle.entries.specs.Entries.{ownWay, emptyWay, smallestWay, roomFor, countIn, countOf, writtenOf, written};
 
@@ -11,7 +13,7 @@ pub enum Replaced {
 }
 
 // The way that a write takes, and what it replaces there.
-pub struct Room {
+struct Room {
     pub way: usize,
     pub replaced: Replaced,
 }
@@ -101,14 +103,22 @@ fn count_in(tags: &[u32], counts: &[i16], tag: u32) -> i16
     0
 }
 
+// Whether lists of these lengths end before a line does.
+fn lacks_line(tags: usize, counts: usize, line: u32) -> bool
+    ensures { λ r. ⌜ r ≡ (ltb tags (4 * line + 4) || ltb counts (4 * line + 4)) ⌝ }
+{
+    let end = 4 * (line as usize) + 4;
+    (tags < end) | (counts < end)
+}
+
 // The count of a tag in a line of the table.
 pub fn count_of(tags: &[u32], counts: &[i16], line: u32, tag: u32) -> i16
     ensures { λ r. ⌜ r ≡ countOf line tag (now (tags .entry)) (now (counts .entry)) ⌝ }
 {
-    let at = 4 * (line as usize);
-    if (tags.len() < at + 4) | (counts.len() < at + 4) {
+    if lacks_line(tags.len(), counts.len(), line) {
         return 0;
     }
+    let at = 4 * (line as usize);
     count_in(&tags[at..at + 4], &counts[at..at + 4], tag)
 }
 
@@ -130,9 +140,9 @@ fn write_entry(tags: &mut [u32], counts: &mut [i16], tag: u32, count: i16) -> Re
 pub fn write(tags: &mut [u32], counts: &mut [i16], line: u32, tag: u32, count: i16) -> Replaced
     ensures { λ r. ⌜ writtenOf r (now (tags .exit)) (now (counts .exit)) ≡ written line tag count (now (tags .entry)) (now (counts .entry)) ⌝ }
 {
-    let at = 4 * (line as usize);
-    if (tags.len() < at + 4) | (counts.len() < at + 4) {
+    if lacks_line(tags.len(), counts.len(), line) {
         return Replaced::Nothing;
     }
+    let at = 4 * (line as usize);
     write_entry(&mut tags[at..at + 4], &mut counts[at..at + 4], tag, count)
 }

@@ -1,12 +1,14 @@
--- Doing a thing so many times, and how many of the numbers below n pass a test.
+-- Doing a thing so many times, and counting.
 -- Assumes nothing.
 use mathlib.Core.Bool.{Bool, cond}
 use Prim.Native.Nat.{ℕ, zero, suc, _+_}
 
+-- what doing f so many times makes of x
 unfoldable pub times : {A : Type 0} → ℕ → (A → A) → A → A
 times zero f x = x
 times (suc n) f x = f (times n f x)
 
+-- how many of the numbers below n pass the test
 unfoldable pub howMany : ℕ → (ℕ → Bool) → ℕ
 howMany zero p = 0
 howMany (suc n) p = howMany n p + cond (p n) 1 0

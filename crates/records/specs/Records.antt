@@ -24,7 +24,7 @@ abbrev pub isCold : ℕ → Bool
 isCold byte = not (plantSeen byte || cellSeen byte)
 
 -- "Each minute boundary passed adds 1 to the age of each marked record; a record whose age is then over Dconn becomes 0; unmarked ones
--- become 0 too." Dconn is at most 62; were it over 63, an age that six bits cannot hold would be over it.
+-- become 0 too." Dconn is at most 62; for one over 63, 63 stands in its place, the most that six bits hold.
 unfoldable pub minutePassed : ℕ → ℕ → ℕ
 minutePassed dconn byte = cond (isCold byte) 0 (cond (ltb (min dconn 63) (ageOf byte + 1)) 0 (byte + 1))
 

@@ -57,7 +57,7 @@ fn older(byte: u8, steps: u8, oldest: u8) -> u8
     byte + steps
 }
 
-// One record after so many minute boundaries.
+// What one record would be after so many minute boundaries, for one who leaves the table as it is.
 pub fn aged(byte: u8, minutes: u32, dconn: u8) -> u8
     ensures { λ r. ⌜ r ≡ agedBy dconn minutes byte ⌝ }
 {
@@ -67,7 +67,7 @@ pub fn aged(byte: u8, minutes: u32, dconn: u8) -> u8
     older(byte, steps_of(minutes), oldest_kept(dconn))
 }
 
-// Every record after so many minute boundaries. With none, none is touched.
+// Ages every record by so many minute boundaries. By none, none is touched.
 pub fn age_all(records: &mut [u8], minutes: u32, dconn: u8)
     ensures { λ _. ⌜ now (records .exit) ≡ map (agedBy dconn minutes) (now (records .entry)) ⌝ }
 {

@@ -22,11 +22,15 @@ list =
     edge 16 4 4 false ∷
     edge 17 4 4 true ∷
     edge 1048576 4 4 false ∷
+    edge 1048577 4 4 true ∷
     edge 2097152 4 4 true ∷
     edge 16 0 0 true ∷
+    edge 16 3 3 true ∷
+    edge 16 5 5 true ∷
     edge 16 8 8 false ∷
     edge 16 12 12 true ∷
     edge 16 1048576 1048576 false ∷
+    edge 16 1048577 1048577 true ∷
     edge 16 1048580 1048580 true ∷
     edge 16 2097152 2097152 true ∷
     edge 16 4 8 true ∷

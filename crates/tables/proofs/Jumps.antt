@@ -16,19 +16,19 @@ use Rattle.counts.proofs.Counts.{decayed-none, decayed-add}
 use Rattle.counts.specs.Counts.{decayedBy}
 use Rattle.records.proofs.Ages.{aged-none, aged-add}
 use Rattle.records.specs.Records.{agedBy}
-use Rattle.tables.specs.Clock.{passed, Timed, timedOf, timePassed}
+use Rattle.tables.specs.Clock.{multiplesPassed, Timed, timedOf, timePassed}
 
 -- ---- how many boundaries
 -- none of 0
-pub passed-of-none : (old new : ℕ) → passed 0 old new ≡ 0
-unfolding passed
+pub passed-of-none : (old new : ℕ) → multiplesPassed 0 old new ≡ 0
+unfolding multiplesPassed
 passed-of-none old new =
     none-of (new - old) (λ i. eqb ((old + suc i) % 0) 0)
     (λ i l. ap (λ (n : ℕ). eqb n 0) (mod-zero (old + suc i)) ∙ ne-eqb (old + suc i) 0 (λ (q : old + suc i ≡ 0). omega arith))
 
 -- as many as the quotient grows
-pub passed-is : (k old new : ℕ) → old ≤ new → passed k old new ≡ new / k - old / k
-unfolding passed
+pub passed-is : (k old new : ℕ) → old ≤ new → multiplesPassed k old new ≡ new / k - old / k
+unfolding multiplesPassed
 passed-is k old new h = go (which 0 k)
   where
     there : old + (new - old) ≡ new
@@ -41,14 +41,14 @@ passed-is k old new h = go (which 0 k)
         rw (e, div-zero new) (passed-of-none old new ∙ omega arith)
 
 -- none where the time does not go on
-pub passed-none : (k old new : ℕ) → new ≤ old → passed k old new ≡ 0
-unfolding passed
+pub passed-none : (k old new : ℕ) → new ≤ old → multiplesPassed k old new ≡ 0
+unfolding multiplesPassed
 passed-none k old new h =
     let e : new - old ≡ 0 = omega arith in
     ap (λ (n : ℕ). howMany n (λ i. eqb ((old + suc i) % k) 0)) e ∙ none-of 0 _ (λ i l. absurd (omega arith))
 
 -- those up to a moment between, and those after it
-pub passed-add : (k a b c : ℕ) → a ≤ b → b ≤ c → passed k a c ≡ passed k a b + passed k b c
+pub passed-add : (k a b c : ℕ) → a ≤ b → b ≤ c → multiplesPassed k a c ≡ multiplesPassed k a b + multiplesPassed k b c
 passed-add k a b c h l =
     omega (arith, passed-is k a b h, passed-is k b c l, passed-is k a c (omega arith), quotient-up k h, quotient-up k l)
 
@@ -69,8 +69,8 @@ module _ (dmiss dconn : ℕ) where
   pub stands : (time : ℕ) (m : Timed) → time ≤ m .clock → timePassed dmiss dconn time m ≡ m
   unfolding timePassed
   stands time m h = λ i. timedOf
-      (not-aged dconn (passed 60 (m .clock) time) (passed-none 60 (m .clock) time h) (m .records) i)
-      (not-decayed (passed dmiss (m .clock) time) (passed-none dmiss (m .clock) time h) (m .counts) i)
+      (not-aged dconn (multiplesPassed 60 (m .clock) time) (passed-none 60 (m .clock) time h) (m .records) i)
+      (not-decayed (multiplesPassed dmiss (m .clock) time) (passed-none dmiss (m .clock) time h) (m .counts) i)
       (last i)
     where
       last : max (m .clock) time ≡ m .clock
@@ -78,7 +78,7 @@ module _ (dmiss dconn : ℕ) where
 
   -- one that is moves the clock there, after a sweep of each table
   pub moves : {time minutes multiples : ℕ} (m : Timed) {records : List ℕ} {counts : List ℤ} → m .clock ≤ time
-      → minutes ≡ passed 60 (m .clock) time → multiples ≡ passed dmiss (m .clock) time
+      → minutes ≡ multiplesPassed 60 (m .clock) time → multiples ≡ multiplesPassed dmiss (m .clock) time
       → records ≡ map (agedBy dconn minutes) (m .records) → counts ≡ map (decayedBy multiples) (m .counts)
       → timedOf records counts time ≡ timePassed dmiss dconn time m
   unfolding timePassed
@@ -88,7 +88,7 @@ module _ (dmiss dconn : ℕ) where
       ∙ (λ i. timedOf (map (agedBy dconn (p i)) (m .records)) (map (decayedBy (q i)) (m .counts)) (max (m .clock) time))
 
   -- "Without a boundary only the clock changes."
-  pub only-the-clock : (time : ℕ) (m : Timed) → passed 60 (m .clock) time ≡ 0 → passed dmiss (m .clock) time ≡ 0
+  pub only-the-clock : (time : ℕ) (m : Timed) → multiplesPassed 60 (m .clock) time ≡ 0 → multiplesPassed dmiss (m .clock) time ≡ 0
       → timePassed dmiss dconn time m ≡ timedOf (m .records) (m .counts) (max (m .clock) time)
   unfolding timePassed
   only-the-clock time m p q = λ i. timedOf (not-aged dconn _ p (m .records) i) (not-decayed _ q (m .counts) i) (max (m .clock) time)
@@ -97,21 +97,17 @@ module _ (dmiss dconn : ℕ) where
   pub by-way-of : (between time : ℕ) (m : Timed) → m .clock ≤ between → between ≤ time
       → timePassed dmiss dconn time m ≡ timePassed dmiss dconn time (timePassed dmiss dconn between m)
   unfolding timePassed
-  by-way-of between time m h l = λ i. timedOf (aged i) (decayed i) (last i)
+  by-way-of between time m h l = λ i. timedOf
+      (map-added (agedBy dconn) (aged-add dconn) _ _ _ (split 60) (m .records) i)
+      (map-added decayedBy decayed-add _ _ _ (split dmiss) (m .counts) i)
+      (last i)
     where
       there : max (m .clock) between ≡ between
       there = omega arith
 
-      split : (k : ℕ) → passed k (m .clock) time ≡ passed k (m .clock) between + passed k (max (m .clock) between) time
+      split : (k : ℕ) → multiplesPassed k (m .clock) time
+          ≡ multiplesPassed k (m .clock) between + multiplesPassed k (max (m .clock) between) time
       split k = rw there (passed-add k (m .clock) between time h l)
-
-      aged : map (agedBy dconn (passed 60 (m .clock) time)) (m .records)
-          ≡ map (agedBy dconn (passed 60 (max (m .clock) between) time)) (map (agedBy dconn (passed 60 (m .clock) between)) (m .records))
-      aged = map-added (agedBy dconn) (aged-add dconn) _ _ _ (split 60) (m .records)
-
-      decayed : map (decayedBy (passed dmiss (m .clock) time)) (m .counts)
-          ≡ map (decayedBy (passed dmiss (max (m .clock) between) time)) (map (decayedBy (passed dmiss (m .clock) between)) (m .counts))
-      decayed = map-added decayedBy decayed-add _ _ _ (split dmiss) (m .counts)
 
       last : max (m .clock) time ≡ max (max (m .clock) between) time
       last = omega arith
@@ -120,7 +116,7 @@ module _ (dmiss dconn : ℕ) where
   abbrev pub aSecond : Timed → Timed
   aSecond m = timePassed dmiss dconn (suc (m .clock)) m
 
-  -- "Passing a gap in one jump leaves the same state as passing it second by second."
+  -- demand 2: "Passing a gap in one jump leaves the same state as passing it second by second."
   pub second-by-second : (gap : ℕ) (m : Timed) → times gap aSecond m ≡ timePassed dmiss dconn (m .clock + gap) m
   second-by-second zero m =
       times-none aSecond m ∙ sym (stands (m .clock + 0) m (omega arith))

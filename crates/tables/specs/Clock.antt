@@ -9,9 +9,9 @@ use Rattle.records.specs.Records.{agedBy}
 use Rattle.counts.specs.Counts.{decayedBy}
 
 -- "A multiple is passed when it is above the old clock and not above the new time": how many of the numbers from old + 1 to new are
--- multiples of k
-unfoldable pub passed : ℕ → ℕ → ℕ → ℕ
-passed k old new = howMany (new - old) (λ i. eqb ((old + suc i) % k) 0)
+-- multiples
+unfoldable pub multiplesPassed : ℕ → ℕ → ℕ → ℕ
+multiplesPassed every old new = howMany (new - old) (λ i. eqb ((old + suc i) % every) 0)
 
 -- what time changes: the connection records, the counts of the address table, and the clock
 pub record Timed : Type 0 where
@@ -28,6 +28,6 @@ timedOf records counts clock = record { records = records; counts = counts; cloc
 unfoldable pub timePassed : ℕ → ℕ → ℕ → Timed → Timed
 timePassed dmiss dconn time before =
     timedOf
-    (map (agedBy dconn (passed 60 (before .clock) time)) (before .records))
-    (map (decayedBy (passed dmiss (before .clock) time)) (before .counts))
+    (map (agedBy dconn (multiplesPassed 60 (before .clock) time)) (before .records))
+    (map (decayedBy (multiplesPassed dmiss (before .clock) time)) (before .counts))
     (max (before .clock) time)

@@ -1,10 +1,10 @@
 // The clock: which boundaries a time passes, and what that does to both tables.
 ghost use mathlib.Core.Path.{_≡_};
-ghost use Rattle.tables.specs.Clock.{passed, timedOf, timePassed};
+ghost use Rattle.tables.specs.Clock.{multiplesPassed, timedOf, timePassed};
 
 // How many multiples of a number are above the old time and not above the new. Of 0 there are none.
-pub fn boundaries(every: u32, old: u32, new: u32) -> u32
-    ensures { λ r. ⌜ r ≡ passed every old new ⌝ }
+pub fn multiples_passed(every: u32, old: u32, new: u32) -> u32
+    ensures { λ r. ⌜ r ≡ multiplesPassed every old new ⌝ }
 {
     if new <= old {
         return 0;
@@ -15,7 +15,7 @@ pub fn boundaries(every: u32, old: u32, new: u32) -> u32
     new / every - old / every
 }
 
-// Passes a time over both tables and the clock. Within a second, and with a time before the clock, nothing is touched.
+// Passes a time over both tables and the clock. Where it is not after the clock, nothing is touched.
 pub fn pass(
     records: &mut [u8],
     counts: &mut [i16],
@@ -31,7 +31,7 @@ pub fn pass(
     if time <= old {
         return;
     }
-    records::age_all(records, boundaries(60, old, time), dconn);
-    counts::decay_all(counts, boundaries(dmiss as u32, old, time));
+    records::age_all(records, multiples_passed(60, old, time), dconn);
+    counts::decay_all(counts, multiples_passed(dmiss as u32, old, time) as u64);
     *clock = time;
 }

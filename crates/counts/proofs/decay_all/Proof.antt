@@ -11,22 +11,20 @@ use mir.ValLaws.{toZ-ofZ}
 use borrow.Author.Needs.{needs}
 use Rattle.laws.proofs.Sweep.{Sweeping, sweep-start, sweep-turn, sweep-end, map-none}
 use Rattle.counts.proofs.Counts.{decayed-none, in-steps}
-use Rattle.counts.proofs.fallen.Reads as fallen-reads
-use Rattle.counts.proofs.steps_of.Reads as steps-of-reads
 use Rattle.counts.specs.Counts.{decayedBy}
 use Rattle.counts.proofs.decay_all.Statement.{statement}
 use Rattle.counts.proofs.decay_all.Tie as tie
 
 abbrev Inv-loop : tie.InvT-loop
-Inv-loop counts₀ multiples steps i₀ counts i = Sweeping (decayedBy multiples) counts₀ counts i
+Inv-loop counts₀ points steps i₀ counts i = Sweeping (decayedBy points) counts₀ counts i
 
 abbrev μ-loop : tie.MeasureT-loop
-μ-loop counts₀ multiples steps i₀ counts i = length counts₀ - i
+μ-loop counts₀ points steps i₀ counts i = length counts₀ - i
 
 returns : tie.Need-returns Inv-loop μ-loop
 returns c =
     let s = c .before in
-    sym (map-none decayedBy decayed-none (s .args .multiples) (c .if1 .taken) (now (s .args .counts)))
+    sym (map-none decayedBy decayed-none (s .args .points) (c .if1 .taken) (now (s .args .counts)))
 
 steps-of-requires : tie.Need-steps-of-requires Inv-loop μ-loop
 steps-of-requires c κs = search needs

@@ -5,8 +5,6 @@ use mir.Syntax.{w16}
 use mir.ValLaws.{toZ-ofZ}
 use borrow.Author.Needs.{needs}
 use Rattle.counts.proofs.Counts.{in-steps}
-use Rattle.counts.proofs.fallen.Reads as fallen-reads
-use Rattle.counts.proofs.steps_of.Reads as steps-of-reads
 use Rattle.counts.proofs.decayed.Statement.{statement}
 use Rattle.counts.proofs.decayed.Tie as tie
 
@@ -19,7 +17,7 @@ fallen-requires c κs = search needs
 returns : tie.Need-returns
 returns c =
     let s = c .before .before in
-    toZ-ofZ w16 _ (record { sfits = c .fallen .ok }) ∙ c .fallen .ensures ∙ in-steps (s .args .multiples) (s .fits .count) (c .before .steps-of .ensures)
+    toZ-ofZ w16 _ (record { sfits = c .fallen .ok }) ∙ c .fallen .ensures ∙ in-steps (s .args .points) (s .fits .count) (c .before .steps-of .ensures)
 
 pub decayed-spec : {M : Type 1} → statement M
 decayed-spec = tie.close (tie.spec steps-of-requires fallen-requires returns)

@@ -9,8 +9,8 @@ use mir.ValLaws.{toZ-ofZ, toZ-pos}
 use borrow.Author.Needs.{needs}
 use Rattle.laws.proofs.Signed.{signed, sum-is, sfits-out, known, leZ-yes, leZ-no}
 use Rattle.laws.proofs.Tests.{cond-at}
-use Rattle.counts.proofs.Counts.{wider, wide-is}
-use Rattle.counts.specs.Counts.{raisedBy}
+use Rattle.counts.specs.Counts.{larger, raisedBy}
+use Rattle.counts.proofs.Counts.{wider, wide-is, raised-within, raised-over}
 use Rattle.counts.proofs.raised.Statement.{statement}
 use Rattle.counts.proofs.raised.Tie as tie
 
@@ -33,25 +33,46 @@ total-is : (c : tie.Start) → toZ w32 (ofZ w32 (toZ w32 (ofZ w32 (toZ w16 (ofZ 
     ≡ c .args .count +ℤ pos (c .args .points)
 total-is c = toZ-ofZ w32 _ (add-sum c) ∙ plain c
 
-returns : tie.Need-returns
-unfolding raisedBy
-returns c =
-    let s = c .before in
-    let e = total-is s in
-    sym (cond-at _ _ (leZ-no (s .args .count +ℤ pos (s .args .points)) (pos 32767) (omega signed)))
+cast-if1 : tie.Need-cast-if1
+cast-if1 c = wider (c .fits .ceiling)
 
 cast-result : tie.Need-cast-result
 cast-result c =
     let s = c .before in
     let e = total-is s in
-    rw e (sfits-out _ (omega (signed, sum-is (s .args .count) (pos (s .args .points)), known (s .fits .count))))
+    let f = wide-is (s .fits .ceiling) in
+    rw e (sfits-out _ (omega (signed, sum-is (s .args .count) (pos (s .args .points)), known (s .fits .count), known (s .fits .ceiling))))
 
-returns-2 : tie.Need-returns-2
-unfolding raisedBy
-returns-2 c =
+returns : tie.Need-returns
+returns c =
     let s = c .before in
     let e = total-is s in
-    toZ-ofZ w16 _ (cast-result c) ∙ e ∙ sym (cond-at _ _ (leZ-yes (s .args .count +ℤ pos (s .args .points)) (pos 32767) (omega signed)))
+    let f = wide-is (s .fits .ceiling) in
+    toZ-ofZ w16 _ (cast-result c)
+    ∙ e
+    ∙ sym (raised-within (s .args .points) (s .args .ceiling) (s .args .count) (leZ-yes (s .args .count +ℤ pos (s .args .points)) (s .args .ceiling) (omega signed)))
+
+-- past the first test the sum is above the ceiling
+over : (c : tie.Else1) → let s = c .before in raisedBy (s .args .points) (s .args .ceiling) (s .args .count) ≡ larger (s .args .count) (s .args .ceiling)
+over c =
+    let s = c .before in
+    let e = total-is s in
+    let f = wide-is (s .fits .ceiling) in
+    raised-over (s .args .points) (s .args .ceiling) (s .args .count) (leZ-no (s .args .count +ℤ pos (s .args .points)) (s .args .ceiling) (omega signed))
+
+returns-2 : tie.Need-returns-2
+unfolding larger
+returns-2 c =
+    let s = c .before .before in
+    toZ-ofZ w16 _ (s .fits .ceiling)
+    ∙ sym (over (c .before) ∙ cond-at _ _ (leZ-yes (s .args .count) (s .args .ceiling) (omega (signed, known (s .fits .count), known (s .fits .ceiling)))))
+
+returns-3 : tie.Need-returns-3
+unfolding larger
+returns-3 c =
+    let s = c .before .before in
+    toZ-ofZ w16 _ (s .fits .count)
+    ∙ sym (over (c .before) ∙ cond-at _ _ (leZ-no (s .args .count) (s .args .ceiling) (omega (signed, known (s .fits .count), known (s .fits .ceiling)))))
 
 pub raised-spec : {M : Type 1} → statement M
-raised-spec = tie.close (tie.spec cast-sum cast-sum-2 add-sum returns cast-result returns-2)
+raised-spec = tie.close (tie.spec cast-sum cast-sum-2 add-sum cast-if1 cast-result returns returns-2 returns-3)

@@ -6,7 +6,6 @@ use mir.ValLaws.{toZ-ofZ}
 use borrow.Author.Needs.{needs}
 use borrow.Author.Tests.{lt-ltb, le-ltb}
 use Rattle.laws.proofs.Tests.{cond-at}
-use Rattle.entries.proofs.own_way.Reads as own-way-reads
 use Rattle.entries.specs.Entries.{countIn}
 use Rattle.entries.proofs.count_in.Statement.{statement}
 use Rattle.entries.proofs.count_in.Tie as tie

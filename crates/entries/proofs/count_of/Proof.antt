@@ -1,29 +1,30 @@
 -- `entries::count_of` meets its contract: the count in the line that is lent.
 -- Assumes nothing.
-use mathlib.Core.Path.{sym, _∙_}
+use mathlib.Core.Bool.{false}
+use mathlib.Core.Path.{_≡_, sym, _∙_}
 use denote.Ref.{now}
 use mir.Syntax.{w16}
 use mir.ValLaws.{toZ-ofZ}
 use borrow.Author.Needs.{needs}
 use Rattle.laws.proofs.Tests.{cond-at}
 use Rattle.entries.proofs.Lines.{has-line, lent-is}
-use Rattle.entries.proofs.count_in.Reads as count-in-reads
-use Rattle.entries.specs.Entries.{countIn, countOf}
+use Rattle.entries.specs.Entries.{lacksLine, countIn, countOf}
 use Rattle.entries.proofs.count_of.Statement.{statement}
 use Rattle.entries.proofs.count_of.Tie as tie
 
-mul-at : tie.Need-mul-at
-mul-at c = search needs
-
-add-if1 : tie.Need-add-if1
-add-if1 c = search needs
-
-add-if1-2 : tie.Need-add-if1-2
-add-if1-2 c = search needs
+lacks-line-requires : tie.Need-lacks-line-requires
+lacks-line-requires c κs = search needs
 
 returns : tie.Need-returns
 unfolding countOf
-returns c = sym (cond-at _ _ (c .if1 .taken))
+returns c = sym (cond-at _ _ (sym (c .before .lacks-line .ensures) ∙ c .if1 .taken))
+
+-- past the first test the lists have the line
+has : (c : tie.Else1) → let s = c .before .before .before in lacksLine (s .args .line) (now (s .args .tags)) (now (s .args .counts)) ≡ false
+has c = sym (c .before .lacks-line .ensures) ∙ c .if1 .left
+
+mul-at : tie.Need-mul-at
+mul-at c = search needs
 
 add-count-in : tie.Need-add-count-in
 add-count-in c = search needs
@@ -39,8 +40,8 @@ part-count-in-start c = search needs
 
 part-count-in-end : tie.Need-part-count-in-end
 part-count-in-end c =
-    let s = c .before .before in
-    let h = has-line (s .args .line) (now (s .args .tags)) (now (s .args .counts)) (c .if1 .left) in
+    let s = c .before .before .before in
+    let h = has-line (s .args .line) (now (s .args .tags)) (now (s .args .counts)) (has c) in
     search needs
 
 add-count-in-2 : tie.Need-add-count-in-2
@@ -57,8 +58,8 @@ part-count-in-start-2 c = search needs
 
 part-count-in-end-2 : tie.Need-part-count-in-end-2
 part-count-in-end-2 c =
-    let s = c .before .before .before in
-    let h = has-line (s .args .line) (now (s .args .tags)) (now (s .args .counts)) (c .before .if1 .left) in
+    let s = c .before .before .before .before in
+    let h = has-line (s .args .line) (now (s .args .tags)) (now (s .args .counts)) (has (c .before)) in
     search needs
 
 count-in-requires : tie.Need-count-in-requires
@@ -68,20 +69,19 @@ returns-2 : tie.Need-returns-2
 unfolding countOf
 returns-2 c =
     let w = c .before .before .before in
-    let s = w .before .before in
+    let s = w .before .before .before in
     toZ-ofZ w16 _ (record { sfits = c .count-in .ok })
     ∙ c .count-in .ensures
     ∙ (λ i. countIn (s .args .tag) (lent-is (s .args .line) (now (s .args .tags)) i) (lent-is (s .args .line) (now (s .args .counts)) i))
-    ∙ sym (cond-at _ _ (w .if1 .left))
+    ∙ sym (cond-at _ _ (has w))
 
 pub count-of-spec : {M : Type 1} → statement M
 count-of-spec =
     tie.close
     (tie.spec
-    mul-at
-    add-if1
-    add-if1-2
+    lacks-line-requires
     returns
+    mul-at
     add-count-in
     mul-count-in
     sub-count-in

@@ -9,7 +9,6 @@ use mir.Syntax.{w16}
 use mir.ValLaws.{toZ-ofZ}
 use borrow.Author.Needs.{needs}
 use Rattle.laws.proofs.Search.{Searching, search-start, search-turn, search-hit, search-end}
-use Rattle.counts.proofs.is_empty.Reads as is-empty-reads
 use Rattle.counts.specs.Counts.{isEmpty}
 use Rattle.entries.specs.Entries.{emptyWay}
 use Rattle.entries.proofs.empty_way.Statement.{statement}

@@ -2,9 +2,6 @@
 -- Assumes nothing.
 use Prim.Native.Nat.{_<_}
 use Rattle.entries.proofs.Lines.{smallest-lt, room-own, room-empty, room-smallest}
-use Rattle.entries.proofs.empty_way.Reads as empty-way-reads
-use Rattle.entries.proofs.own_way.Reads as own-way-reads
-use Rattle.entries.proofs.smallest_way.Reads as smallest-way-reads
 use borrow.Author.Needs.{needs}
 use native.Mathlib.Omega.{arith}
 use Rattle.entries.proofs.room_for.Statement.{statement}

@@ -2,6 +2,7 @@
 -- Assumes nothing.
 use Prim.Native.Nat.{_-_, _≤_}
 use Rattle.entries.specs.Entries.{smallestWay}
+use Rattle.laws.specs.Search.{foremost}
 use Rattle.laws.proofs.Search.{Leading, lead-start, lead-found, lead-kept, lead-end}
 use Rattle.laws.proofs.Signed.{signed, known, by-smallness}
 use borrow.Author.Needs.{needs}
@@ -57,7 +58,7 @@ loop-again c =
     )
 
 returns : tie.Need-returns Inv-loop μ-loop
-unfolding smallestWay
+unfolding smallestWay foremost
 returns c = lead-end by-smallness _ 4 (c .before .loop .inv .0) (omega arith)
 
 pub smallest-way-spec : {M : Type 1} → statement M

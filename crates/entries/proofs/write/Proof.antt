@@ -1,29 +1,30 @@
 -- `entries::write` meets its contract: what the writer did to the line, said of the table.
 -- Assumes nothing.
-use mathlib.Core.Path.{sym}
+use mathlib.Core.Bool.{false}
+use mathlib.Core.Path.{_≡_, sym, _∙_}
 use denote.Ref.{now}
 use mir.Syntax.{w16}
 use mir.ValLaws.{toZ-ofZ}
 use borrow.Author.Needs.{needs}
 use Rattle.laws.proofs.Tests.{cond-at}
 use Rattle.entries.proofs.Lines.{has-line, line-written}
-use Rattle.entries.proofs.write_entry.Reads as write-entry-reads
-use Rattle.entries.specs.Entries.{written}
+use Rattle.entries.specs.Entries.{lacksLine, written}
 use Rattle.entries.proofs.write.Statement.{statement}
 use Rattle.entries.proofs.write.Tie as tie
 
-mul-at : tie.Need-mul-at
-mul-at c = search needs
-
-add-if1 : tie.Need-add-if1
-add-if1 c = search needs
-
-add-if1-2 : tie.Need-add-if1-2
-add-if1-2 c = search needs
+lacks-line-requires : tie.Need-lacks-line-requires
+lacks-line-requires c κs = search needs
 
 returns : tie.Need-returns
 unfolding written
-returns c = sym (cond-at _ _ (c .if1 .taken))
+returns c = sym (cond-at _ _ (sym (c .before .lacks-line .ensures) ∙ c .if1 .taken))
+
+-- past the first test the lists have the line
+has : (c : tie.Else1) → let s = c .before .before .before in lacksLine (s .args .line) (now (s .args .tags)) (now (s .args .counts)) ≡ false
+has c = sym (c .before .lacks-line .ensures) ∙ c .if1 .left
+
+mul-at : tie.Need-mul-at
+mul-at c = search needs
 
 add-write-entry : tie.Need-add-write-entry
 add-write-entry c = search needs
@@ -39,8 +40,8 @@ part-write-entry-start c = search needs
 
 part-write-entry-end : tie.Need-part-write-entry-end
 part-write-entry-end c =
-    let s = c .before .before in
-    let h = has-line (s .args .line) (now (s .args .tags)) (now (s .args .counts)) (c .if1 .left) in
+    let s = c .before .before .before in
+    let h = has-line (s .args .line) (now (s .args .tags)) (now (s .args .counts)) (has c) in
     search needs
 
 add-write-entry-2 : tie.Need-add-write-entry-2
@@ -57,8 +58,8 @@ part-write-entry-start-2 c = search needs
 
 part-write-entry-end-2 : tie.Need-part-write-entry-end-2
 part-write-entry-end-2 c =
-    let s = c .before .before .before in
-    let h = has-line (s .args .line) (now (s .args .tags)) (now (s .args .counts)) (c .before .if1 .left) in
+    let s = c .before .before .before .before in
+    let h = has-line (s .args .line) (now (s .args .tags)) (now (s .args .counts)) (has (c .before)) in
     search needs
 
 write-entry-requires : tie.Need-write-entry-requires
@@ -74,18 +75,17 @@ returns-2 : tie.Need-returns-2
 returns-2 c =
     let w = c .before .before .before in
     let e = w .before .before .before in
-    let s = e .before .before in
-    line-written (s .args .line) (s .args .tag) (s .args .count) (now (s .args .tags)) (now (s .args .counts)) _ _ _ (e .if1 .left)
+    let s = e .before .before .before in
+    line-written (s .args .line) (s .args .tag) (s .args .count) (now (s .args .tags)) (now (s .args .counts)) _ _ _ (has e)
     (rw (toZ-ofZ w16 _ (s .fits .count)) at (w .write-entry .ensures))
 
 pub write-spec : {M : Type 1} → statement M
 write-spec =
     tie.close
     (tie.spec
-    mul-at
-    add-if1
-    add-if1-2
+    lacks-line-requires
     returns
+    mul-at
     add-write-entry
     mul-write-entry
     sub-write-entry

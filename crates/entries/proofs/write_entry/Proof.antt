@@ -9,7 +9,6 @@ use mir.Syntax.{w16}
 use mir.ValLaws.{toZ-ofZ}
 use borrow.Author.Needs.{needs}
 use Rattle.entries.proofs.Lines.{room-lt}
-use Rattle.entries.proofs.room_for.Reads as room-for-reads
 use Rattle.entries.proofs.write_entry.Statement.{statement}
 use Rattle.entries.proofs.write_entry.Tie as tie
 

@@ -3,9 +3,6 @@
 use Prim.Native.Nat.{_-_}
 use Rattle.laws.proofs.Sweep.{Sweeping, sweep-start, sweep-turn, sweep-end, map-none, map-alike}
 use Rattle.records.proofs.Ages.{aged-none, in-bytes}
-use Rattle.records.proofs.older.Reads as older-reads
-use Rattle.records.proofs.oldest_kept.Reads as oldest-kept-reads
-use Rattle.records.proofs.steps_of.Reads as steps-of-reads
 use Rattle.records.specs.Records.{agedBy}
 use borrow.Author.Needs.{needs}
 use denote.Ref.{now}

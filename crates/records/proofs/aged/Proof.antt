@@ -2,9 +2,6 @@
 -- Assumes nothing.
 use Prim.Native.Nat.{ℕ}
 use Rattle.records.proofs.Ages.{aged-none, in-bytes}
-use Rattle.records.proofs.older.Reads as older-reads
-use Rattle.records.proofs.oldest_kept.Reads as oldest-kept-reads
-use Rattle.records.proofs.steps_of.Reads as steps-of-reads
 use Rattle.records.specs.Records.{agedBy}
 use borrow.Author.Needs.{needs}
 use mathlib.Core.Path.{sym, ap, _∙_}

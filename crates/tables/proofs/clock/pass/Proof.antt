@@ -4,10 +4,7 @@ use mathlib.Core.Path.{sym}
 use native.Mathlib.Omega.{arith}
 use denote.Ref.{now}
 use borrow.Author.Needs.{needs}
-use Rattle.counts.proofs.decay_all.Reads as decay-all-reads
-use Rattle.records.proofs.age_all.Reads as age-all-reads
 use Rattle.tables.proofs.Jumps.{stands, moves}
-use Rattle.tables.proofs.clock.boundaries.Reads as boundaries-reads
 use Rattle.tables.specs.Clock.{timedOf}
 use Rattle.tables.proofs.clock.pass.Statement.{statement}
 use Rattle.tables.proofs.clock.pass.Tie as tie
@@ -17,14 +14,17 @@ returns c =
     let s = c .before .before .before in
     sym (stands _ _ (s .args .time) (timedOf (now (s .args .records)) (now (s .args .counts)) (now (s .args .clock))) (c .if1 .taken))
 
-boundaries-requires : tie.Need-boundaries-requires
-boundaries-requires c κs = search needs
+multiples-passed-requires : tie.Need-multiples-passed-requires
+multiples-passed-requires c κs = search needs
 
 age-all-requires : tie.Need-age-all-requires
 age-all-requires c κs = search needs
 
-boundaries-requires-2 : tie.Need-boundaries-requires-2
-boundaries-requires-2 c κs = search needs
+multiples-passed-requires-2 : tie.Need-multiples-passed-requires-2
+multiples-passed-requires-2 c κs = search needs
+
+cast-decay-all : tie.Need-cast-decay-all
+cast-decay-all c = search needs
 
 decay-all-requires : tie.Need-decay-all-requires
 decay-all-requires c κs = search needs
@@ -41,16 +41,17 @@ returns-2 c =
     let first = second .before .before .before .before .before in
     let s = first .before .before .before .before .before in
     moves _ _ (timedOf (now (s .args .records)) (now (s .args .counts)) (now (s .args .clock))) (omega arith)
-    (first .boundaries .ensures) (second .boundaries2 .ensures) (second .before .before .before .before .age-all .ensures) (c .before .decay-all .ensures)
+    (first .multiples-passed .ensures) (second .multiples-passed2 .ensures) (second .before .before .before .before .age-all .ensures) (c .before .decay-all .ensures)
 
 pub pass-spec : {M : Type 1} → statement M
 pass-spec =
     tie.close
     (tie.spec
     returns
-    boundaries-requires
+    multiples-passed-requires
     age-all-requires
-    boundaries-requires-2
+    multiples-passed-requires-2
+    cast-decay-all
     decay-all-requires
     same-length
     same-length-2

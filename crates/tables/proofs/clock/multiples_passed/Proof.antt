@@ -1,4 +1,4 @@
--- `tables::clock::boundaries` meets its contract: the quotient grows by one at each multiple.
+-- `tables::clock::multiples_passed` meets its contract: the quotient grows by one at each multiple.
 -- Assumes nothing.
 use mathlib.Core.Path.{sym, ap, _∙_}
 use Prim.Native.Nat.{ℕ}
@@ -6,9 +6,9 @@ use native.Mathlib.Omega.{arith}
 use borrow.Author.Needs.{needs}
 use Rattle.laws.proofs.Times.{quotient-up}
 use Rattle.tables.proofs.Jumps.{passed-is, passed-none, passed-of-none}
-use Rattle.tables.specs.Clock.{passed}
-use Rattle.tables.proofs.clock.boundaries.Statement.{statement}
-use Rattle.tables.proofs.clock.boundaries.Tie as tie
+use Rattle.tables.specs.Clock.{multiplesPassed}
+use Rattle.tables.proofs.clock.multiples_passed.Statement.{statement}
+use Rattle.tables.proofs.clock.multiples_passed.Tie as tie
 
 returns : tie.Need-returns
 returns c = sym (passed-none _ _ _ (c .if1 .taken))
@@ -16,7 +16,7 @@ returns c = sym (passed-none _ _ _ (c .if1 .taken))
 returns-2 : tie.Need-returns-2
 returns-2 c =
     let s = c .before .before in
-    sym (ap (λ (k : ℕ). passed k (s .args .old) (s .args .new)) (c .if2 .taken) ∙ passed-of-none (s .args .old) (s .args .new))
+    sym (ap (λ (k : ℕ). multiplesPassed k (s .args .old) (s .args .new)) (c .if2 .taken) ∙ passed-of-none (s .args .old) (s .args .new))
 
 div-result : tie.Need-div-result
 div-result c = search needs
@@ -32,6 +32,6 @@ returns-3 c =
     let s = c .before .before in
     sym (passed-is (s .args .every) (s .args .old) (s .args .new) (omega arith))
 
-pub boundaries-spec : {M : Type 1} → statement M
-boundaries-spec =
+pub multiples-passed-spec : {M : Type 1} → statement M
+multiples-passed-spec =
     tie.close (tie.spec returns returns-2 div-result div-result-2 sub-result returns-3)
