@@ -64,7 +64,7 @@ fn fallen(count: i16, steps: u16) -> i16
     (high - steps) as i16
 }
 
-// What a count would be after a decay by so many points, for one who leaves the table as it is.
+// One count after a decay by so many points.
 pub fn decayed(count: i16, points: u64) -> i16
     ensures { λ r. ⌜ r ≡ decayedBy points count ⌝ }
 {
@@ -78,10 +78,9 @@ pub fn decay_all(counts: &mut [i16], points: u64)
     if points == 0 {
         return;
     }
-    let steps = steps_of(points);
     let mut i = 0;
     while i < counts.len() {
-        counts[i] = fallen(counts[i], steps);
+        counts[i] = decayed(counts[i], points);
         i += 1;
     }
 }

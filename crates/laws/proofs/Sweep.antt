@@ -84,10 +84,6 @@ module _ {A : Type 0} where
   map-same f h [] = refl
   map-same f h (x ∷ l) = λ i. h x i ∷ map-same f h l i
 
-  pub map-alike : (f g : A → A) → ((x : A) → f x ≡ g x) → (l : List A) → map f l ≡ map g l
-  map-alike f g h [] = refl
-  map-alike f g h (x ∷ l) = λ i. h x i ∷ map-alike f g h l i
-
   -- two sweeps that come to one
   pub map-twice : (f g h : A → A) → ((x : A) → f x ≡ g (h x)) → (l : List A) → map f l ≡ map g (map h l)
   map-twice f g h e [] = refl

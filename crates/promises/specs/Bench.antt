@@ -8,6 +8,7 @@ use lib.ListN.{replicate}
 use Rattle.laws.specs.Signed.{minus}
 use Rattle.permute.specs.Permutation.{E}
 use Rattle.places.specs.Places.{slotOf, placeOf}
+use Rattle.records.specs.declared.Marks.{Marks}
 use Rattle.records.specs.Records.{recordOf}
 use Rattle.counts.specs.Counts.{loweredBy}
 use Rattle.tables.specs.Clock.{timedOf, timePassed}
@@ -28,8 +29,11 @@ zeros = replicate 8 0
 abbrev countAfter : ℤ → ℕ → ℕ → List ℤ
 countAfter count old new = timePassed 60 10 new (timedOf [] (count ∷ []) old) .counts
 
+abbrev both : Marks
+both = record { plant = true; cell = true }
+
 abbrev recordAfter : ℕ → ℕ → ℕ → List ℤ
-recordAfter age old new = map pos (timePassed 60 10 new (timedOf (recordOf true true age ∷ []) [] old) .records)
+recordAfter age old new = map pos (timePassed 60 10 new (timedOf (recordOf both age ∷ []) [] old) .records)
 
 unfoldable pub table : List Row
 table =
@@ -51,4 +55,4 @@ table =
     row 10 (countAfter (pos 3) 59 60 ++ (countAfter (pos 3) 60 119 ++ (countAfter (pos 3) 0 600 ++ countAfter (minus 4) 0 600)))
     (pos 2 ∷ pos 3 ∷ pos 0 ∷ minus 4 ∷ []) ∷
     -- Dconn 10, age 9, one minute: kept at 10. Age 10: cleared
-    row 11 (recordAfter 9 0 60 ++ recordAfter 10 0 60) (pos (recordOf true true 10) ∷ pos 0 ∷ []) ∷ []
+    row 11 (recordAfter 9 0 60 ++ recordAfter 10 0 60) (pos (recordOf both 10) ∷ pos 0 ∷ []) ∷ []

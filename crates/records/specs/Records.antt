@@ -4,6 +4,7 @@ use mathlib.Core.Bool.{Bool, not, _||_, cond}
 use Prim.Native.Nat.{ℕ, _+_, _/_, _%_, min}
 use lib.Dec.{ltb, eqb}
 use Rattle.laws.specs.Times.{times}
+use Rattle.records.specs.declared.Marks.{Marks}
 
 -- "A connection record has bit 7 for plant to cell seen, bit 6 for cell to plant seen, low six bits age."
 abbrev pub plantSeen : ℕ → Bool
@@ -15,9 +16,12 @@ cellSeen byte = eqb (byte / 64 % 2) 1
 abbrev pub ageOf : ℕ → ℕ
 ageOf byte = byte % 64
 
+abbrev pub marksOf : ℕ → Marks
+marksOf byte = record { plant = plantSeen byte; cell = cellSeen byte }
+
 -- the record that has these marks and this age
-abbrev pub recordOf : Bool → Bool → ℕ → ℕ
-recordOf plant cell age = cond plant 128 0 + cond cell 64 0 + age
+abbrev pub recordOf : Marks → ℕ → ℕ
+recordOf marks age = cond (marks .plant) 128 0 + cond (marks .cell) 64 0 + age
 
 -- "With neither bit it is cold, its age ignored."
 abbrev pub isCold : ℕ → Bool

@@ -2,30 +2,32 @@
 ghost use mathlib.Core.Path.{_≡_};
 ghost use mathlib.Core.List.{map};
 ghost use Prim.Native.Nat.{_<_, _≤_, min};
-ghost use Rattle.records.specs.Records.{plantSeen, cellSeen, recordOf, agedBy};
+ghost use Rattle.records.specs.Records.{marksOf, recordOf, agedBy};
 
-// Whether a packet from plant to cell was seen.
-pub fn plant_seen(byte: u8) -> bool
-    ensures { λ r. ⌜ r ≡ plantSeen byte ⌝ }
-{
-    byte / 128 % 2 == 1
+// The marks of a record: which directions were seen.
+pub struct Marks {
+    pub plant: bool,
+    pub cell: bool,
 }
 
-// Whether a packet from cell to plant was seen.
-pub fn cell_seen(byte: u8) -> bool
-    ensures { λ r. ⌜ r ≡ cellSeen byte ⌝ }
+// The marks that a record has.
+pub fn marks_of(byte: u8) -> Marks
+    ensures { λ r. ⌜ r ≡ marksOf byte ⌝ }
 {
-    byte / 64 % 2 == 1
+    Marks {
+        plant: byte / 128 % 2 == 1,
+        cell: byte / 64 % 2 == 1,
+    }
 }
 
 // The record with these marks on which a packet was forwarded just now: its age is 0.
-pub fn renewed(plant: bool, cell: bool) -> u8
-    ensures { λ r. ⌜ r ≡ recordOf plant cell 0 ⌝ }
+pub fn renewed(marks: Marks) -> u8
+    ensures { λ r. ⌜ r ≡ recordOf marks 0 ⌝ }
 {
-    if plant {
-        if cell { 192 } else { 128 }
+    if marks.plant {
+        if marks.cell { 192 } else { 128 }
     } else {
-        if cell { 64 } else { 0 }
+        if marks.cell { 64 } else { 0 }
     }
 }
 
@@ -57,7 +59,7 @@ fn older(byte: u8, steps: u8, oldest: u8) -> u8
     byte + steps
 }
 
-// What one record would be after so many minute boundaries, for one who leaves the table as it is.
+// One record after so many minute boundaries.
 pub fn aged(byte: u8, minutes: u32, dconn: u8) -> u8
     ensures { λ r. ⌜ r ≡ agedBy dconn minutes byte ⌝ }
 {
@@ -74,11 +76,9 @@ pub fn age_all(records: &mut [u8], minutes: u32, dconn: u8)
     if minutes == 0 {
         return;
     }
-    let steps = steps_of(minutes);
-    let oldest = oldest_kept(dconn);
     let mut i = 0;
     while i < records.len() {
-        records[i] = older(records[i], steps, oldest);
+        records[i] = aged(records[i], minutes, dconn);
         i += 1;
     }
 }

@@ -1,6 +1,6 @@
--- `counts::decay_all` meets its contract: one sweep, and none where no multiple was passed.
+-- `counts::decay_all` meets its contract: one sweep, and none where there is nothing to take.
 -- Assumes nothing.
-use mathlib.Core.Path.{sym, _∙_}
+use mathlib.Core.Path.{sym, ap, _∙_}
 use Prim.Native.Nat.{_-_}
 use native.Mathlib.Omega.{arith}
 use lib.IntN.{pos}
@@ -10,39 +10,36 @@ use mir.Syntax.{w16}
 use mir.ValLaws.{toZ-ofZ}
 use borrow.Author.Needs.{needs}
 use Rattle.laws.proofs.Sweep.{Sweeping, sweep-start, sweep-turn, sweep-end, map-none}
-use Rattle.counts.proofs.Counts.{decayed-none, in-steps}
+use Rattle.counts.proofs.Counts.{decayed-none}
 use Rattle.counts.specs.Counts.{decayedBy}
 use Rattle.counts.proofs.decay_all.Statement.{statement}
 use Rattle.counts.proofs.decay_all.Tie as tie
 
 abbrev Inv-loop : tie.InvT-loop
-Inv-loop counts₀ points steps i₀ counts i = Sweeping (decayedBy points) counts₀ counts i
+Inv-loop counts₀ points i₀ counts i = Sweeping (decayedBy points) counts₀ counts i
 
 abbrev μ-loop : tie.MeasureT-loop
-μ-loop counts₀ points steps i₀ counts i = length counts₀ - i
+μ-loop counts₀ points i₀ counts i = length counts₀ - i
 
 returns : tie.Need-returns Inv-loop μ-loop
 returns c =
     let s = c .before in
     sym (map-none decayedBy decayed-none (s .args .points) (c .if1 .taken) (now (s .args .counts)))
 
-steps-of-requires : tie.Need-steps-of-requires Inv-loop μ-loop
-steps-of-requires c κs = search needs
-
 loop-holds : tie.Need-loop-holds Inv-loop μ-loop
 loop-holds c = sweep-start _ _
 
-mul-fallen : tie.Need-mul-fallen Inv-loop μ-loop
-mul-fallen c = search needs
+mul-decayed : tie.Need-mul-decayed Inv-loop μ-loop
+mul-decayed c = search needs
 
-slice-copy-out-fallen : tie.Need-slice-copy-out-fallen Inv-loop μ-loop
-slice-copy-out-fallen c = search needs
+slice-copy-out-decayed : tie.Need-slice-copy-out-decayed Inv-loop μ-loop
+slice-copy-out-decayed c = search needs
 
-fallen-requires : tie.Need-fallen-requires Inv-loop μ-loop
-fallen-requires c κs = search needs
+decayed-requires : tie.Need-decayed-requires Inv-loop μ-loop
+decayed-requires c κs = search needs
 
-mul-t11 : tie.Need-mul-t11 Inv-loop μ-loop
-mul-t11 c = search needs
+mul-t10 : tie.Need-mul-t10 Inv-loop μ-loop
+mul-t10 c = search needs
 
 slice-set-from-counts : tie.Need-slice-set-from-counts Inv-loop μ-loop
 slice-set-from-counts c = search needs
@@ -57,7 +54,9 @@ loop-again : tie.Need-loop-again Inv-loop μ-loop
 loop-again c =
     let w = c .before .before in
     sweep-turn (pos 0) _ (w .before .loop .inv) (w .loop-test .taken)
-    (toZ-ofZ w16 _ (record { sfits = c .fallen .ok }) ∙ c .fallen .ensures ∙ in-steps _ (record { sfits = c .before .fallen-arg .given }) (w .before .before .steps-of .ensures))
+    (toZ-ofZ w16 _ (record { sfits = c .decayed .ok })
+    ∙ c .decayed .ensures
+    ∙ ap (decayedBy (w .before .before .before .args .points)) (toZ-ofZ w16 _ (record { sfits = c .before .decayed-arg .given })))
 
 same-length : tie.Need-same-length Inv-loop μ-loop
 same-length c = c .before .loop .inv .long
@@ -72,12 +71,11 @@ decay-all-spec =
     Inv-loop
     μ-loop
     returns
-    steps-of-requires
     loop-holds
-    mul-fallen
-    slice-copy-out-fallen
-    fallen-requires
-    mul-t11
+    mul-decayed
+    slice-copy-out-decayed
+    decayed-requires
+    mul-t10
     slice-set-from-counts
     add-i
     loop-less

@@ -1,42 +1,36 @@
 -- `records::age_all` meets its contract: one sweep, and none where no boundary was passed.
 -- Assumes nothing.
+use mathlib.Core.Path.{sym}
 use Prim.Native.Nat.{_-_}
-use Rattle.laws.proofs.Sweep.{Sweeping, sweep-start, sweep-turn, sweep-end, map-none, map-alike}
-use Rattle.records.proofs.Ages.{aged-none, in-bytes}
-use Rattle.records.specs.Records.{agedBy}
-use borrow.Author.Needs.{needs}
-use denote.Ref.{now}
-use lib.ListN.{length}
-use mathlib.Core.Path.{sym, _∙_}
 use native.Mathlib.Omega.{arith}
+use lib.ListN.{length}
+use denote.Ref.{now}
+use borrow.Author.Needs.{needs}
+use Rattle.laws.proofs.Sweep.{Sweeping, sweep-start, sweep-turn, sweep-end, map-none}
+use Rattle.records.proofs.Ages.{aged-none}
+use Rattle.records.specs.Records.{agedBy}
 use Rattle.records.proofs.age_all.Statement.{statement}
 use Rattle.records.proofs.age_all.Tie as tie
 
 abbrev Inv-loop : tie.InvT-loop
-Inv-loop records₀ minutes dconn steps oldest i₀ records i = Sweeping (agedBy oldest steps) records₀ records i
+Inv-loop records₀ minutes dconn i₀ records i = Sweeping (agedBy dconn minutes) records₀ records i
 
 abbrev μ-loop : tie.MeasureT-loop
-μ-loop records₀ minutes dconn steps oldest i₀ records i = length records₀ - i
+μ-loop records₀ minutes dconn i₀ records i = length records₀ - i
 
 returns : tie.Need-returns Inv-loop μ-loop
 returns c =
     let s = c .before .before in
     sym (map-none (agedBy (s .args .dconn)) (aged-none (s .args .dconn)) (s .args .minutes) (c .if1 .taken) (now (s .args .records)))
 
-steps-of-requires : tie.Need-steps-of-requires Inv-loop μ-loop
-steps-of-requires c κs = search needs
-
-oldest-kept-requires : tie.Need-oldest-kept-requires Inv-loop μ-loop
-oldest-kept-requires c κs = search needs
-
 loop-holds : tie.Need-loop-holds Inv-loop μ-loop
 loop-holds c = sweep-start _ _
 
-slice-read-older : tie.Need-slice-read-older Inv-loop μ-loop
-slice-read-older c = search needs
+slice-read-aged : tie.Need-slice-read-aged Inv-loop μ-loop
+slice-read-aged c = search needs
 
-older-requires : tie.Need-older-requires Inv-loop μ-loop
-older-requires c κs = search needs
+aged-requires : tie.Need-aged-requires Inv-loop μ-loop
+aged-requires c κs = search needs
 
 slice-write-records : tie.Need-slice-write-records Inv-loop μ-loop
 slice-write-records c = search needs
@@ -50,17 +44,13 @@ loop-less c = omega arith
 loop-again : tie.Need-loop-again Inv-loop μ-loop
 loop-again c =
     let w = c .before .before in
-    sweep-turn _ _ (w .before .loop .inv) (w .loop-test .taken) (c .older .ensures)
+    sweep-turn _ _ (w .before .loop .inv) (w .loop-test .taken) (c .aged .ensures)
 
 same-length : tie.Need-same-length Inv-loop μ-loop
 same-length c = c .before .loop .inv .long
 
 returns-2 : tie.Need-returns-2 Inv-loop μ-loop
-returns-2 c =
-    let w = c .before .before in
-    let s = w .before .before .before .before in
-    sweep-end (c .before .loop .inv) (c .loop-test .left)
-    ∙ map-alike _ _ (in-bytes (s .args .dconn) (s .args .minutes) (w .before .steps-of .ensures) (w .oldest-kept .ensures)) (now (s .args .records))
+returns-2 c = sweep-end (c .before .loop .inv) (c .loop-test .left)
 
 pub age-all-spec : {M : Type 1} → statement M
 age-all-spec =
@@ -69,11 +59,9 @@ age-all-spec =
     Inv-loop
     μ-loop
     returns
-    steps-of-requires
-    oldest-kept-requires
     loop-holds
-    slice-read-older
-    older-requires
+    slice-read-aged
+    aged-requires
     slice-write-records
     add-i
     loop-less
