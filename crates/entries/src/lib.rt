@@ -14,8 +14,8 @@ pub enum Replaced {
 
 // The way that a write takes, and what it replaces there.
 struct Room {
-    pub way: usize,
-    pub replaced: Replaced,
+    way: usize,
+    replaced: Replaced,
 }
 
 // The way of the first non-empty entry with this tag, or 4.

@@ -4,7 +4,7 @@ ghost use mathlib.Core.List.{map};
 ghost use Prim.Native.Nat.{_<_, _≤_, min};
 ghost use Rattle.records.specs.Records.{marksOf, recordOf, agedBy};
 
-// The marks of a record: which directions were seen.
+// The marks of a record: whether plant to cell was seen, and cell to plant.
 pub struct Marks {
     pub plant: bool,
     pub cell: bool,
