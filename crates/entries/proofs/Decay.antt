@@ -6,7 +6,7 @@ use mathlib.Core.Path.{_≡_, refl, sym, ap, _∙_}
 use Prim.Native.Nat.{ℕ, _+_, _*_, _<_}
 use lib.Dec.{eqb, ltb}
 use lib.IntN.{ℤ, pos, negsuc}
-use lib.ListN.{getD, drop, length-map, List·getD-map}
+use lib.ListN.{length, getD, drop, length-map, List·getD-map}
 use lib.Seq.{getD-take, getD-drop}
 use borrow.Author.Tests.{ltb-true}
 use Rattle.laws.proofs.Search.{first-same}
@@ -63,7 +63,7 @@ module _ (points : ℕ) where
     -- "Each multiple of Dmiss passed lowers each positive count by 1", so an address's too
     pub count-decays : countOf line tag tags (map (decayedBy points) counts) ≡ decayedBy points (countOf line tag tags counts)
     unfolding countOf
-    count-decays = rw (length-map counts (decayedBy points)) (go (lacksLine line tags counts))
+    count-decays = rw (length-map counts (decayedBy points)) (go (lacksLine line (length tags) (length counts)))
       where
         go : (b : Bool) → cond b (pos 0) (countIn tag (lineOf line tags) (lineOf line (map (decayedBy points) counts)))
             ≡ decayedBy points (cond b (pos 0) (countIn tag (lineOf line tags) (lineOf line counts)))

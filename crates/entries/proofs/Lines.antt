@@ -3,7 +3,7 @@
 -- Assumes nothing.
 use mathlib.Core.Bool.{true, false}
 use mathlib.Core.List.{List}
-use mathlib.Core.Path.{_≡_, refl, sym, ap, _∙_}
+use mathlib.Core.Path.{_≡_, refl, sym, ap, subst, _∙_}
 use Prim.Native.Nat.{ℕ, _+_, _*_, _-_, _≤_, _<_}
 use native.Mathlib.Omega.{arith}
 use lib.Dec.{ltb}
@@ -55,25 +55,32 @@ module _ (tag : ℕ) (tags : List ℕ) (counts : List ℤ) where
   unfolding roomFor
   room-smallest own empty smallest e h q k s = rw (← e, ← q, ← s) (sym (cond-at _ _ (le-ltb own 4 h) ∙ cond-at _ _ (le-ltb empty 4 k)))
 
-  -- each of them is a way
-  pub room-lt : roomFor tag tags counts .way < 4
-  room-lt = own (which (ownWay tag tags counts) 4)
+  -- so what holds of the three holds of the room
+  pub room-cases : (P : Room → Type 0)
+      → (ownWay tag tags counts < 4 → P (roomOf (ownWay tag tags counts) Nothing))
+      → (4 ≤ ownWay tag tags counts → emptyWay counts < 4 → P (roomOf (emptyWay counts) Nothing))
+      → (4 ≤ ownWay tag tags counts → 4 ≤ emptyWay counts → P (roomOf (smallestWay counts) (Tag (getD tags (smallestWay counts) 0))))
+      → P (roomFor tag tags counts)
+  room-cases P own empty smallest = first (which (ownWay tag tags counts) 4)
     where
-      empty : 4 ≤ ownWay tag tags counts → Which (emptyWay counts) 4 → roomFor tag tags counts .way < 4
-      empty h (below k) = rw (← (room-empty _ _ refl h refl k)) k
-      empty h (above k) = rw (← (room-smallest _ _ _ refl h refl k refl)) (smallest-lt counts)
+      then : 4 ≤ ownWay tag tags counts → Which (emptyWay counts) 4 → P (roomFor tag tags counts)
+      then h (below k) = subst P (room-empty _ _ refl h refl k) (empty h k)
+      then h (above k) = subst P (room-smallest _ _ _ refl h refl k refl) (smallest h k)
 
-      own : Which (ownWay tag tags counts) 4 → roomFor tag tags counts .way < 4
-      own (below h) = rw (← (room-own _ refl h)) h
-      own (above h) = empty h (which (emptyWay counts) 4)
+      first : Which (ownWay tag tags counts) 4 → P (roomFor tag tags counts)
+      first (below h) = subst P (room-own _ refl h) (own h)
+      first (above h) = then h (which (emptyWay counts) 4)
+
+  -- it is one of the four ways
+  pub room-lt : roomFor tag tags counts .way < 4
+  room-lt = room-cases (λ r. r .way < 4) (λ h. h) (λ h k. k) (λ h k. smallest-lt counts)
 
 -- ---- a line of the table
 -- lists that do not lack the line reach to its end
-pub has-line : (line : ℕ) (tags : List ℕ) (counts : List ℤ) → lacksLine line tags counts ≡ false
-    → (4 * line + 4 ≤ length tags) × (4 * line + 4 ≤ length counts)
+pub has-line : (line tags counts : ℕ) → lacksLine line tags counts ≡ false → (4 * line + 4 ≤ tags) × (4 * line + 4 ≤ counts)
 has-line line tags counts e =
-    let s = ltb (length tags) (4 * line + 4) in
-    let t = ltb (length counts) (4 * line + 4) in
+    let s = ltb tags (4 * line + 4) in
+    let t = ltb counts (4 * line + 4) in
     (ltb-false _ _ (or-left s t e), ltb-false _ _ (or-right s t e))
 
 -- the part that is lent for writing, and the list when it is given back, as the borrow rules name them
@@ -104,12 +111,12 @@ module _ (line tag : ℕ) (count : ℤ) (tags : List ℕ) (counts : List ℤ) wh
   abbrev here : Room
   here = roomFor tag (lent line tags) (lent line counts)
 
-  pub line-written : (r : Replaced) (ts : List ℕ) (cs : List ℤ) → lacksLine line tags counts ≡ false
+  pub line-written : (r : Replaced) (ts : List ℕ) (cs : List ℤ) → lacksLine line (length tags) (length counts) ≡ false
       → (r ≡ here .replaced) × (ts ≡ set (lent line tags) (here .way) tag) × (cs ≡ set (lent line counts) (here .way) count)
       → writtenOf r (given-back line tags ts) (given-back line counts cs) ≡ written line tag count tags counts
   unfolding written
   line-written r ts cs e w =
-      let h = has-line line tags counts e in
+      let h = has-line line (length tags) (length counts) e in
       let low = room-lt tag (lent line tags) (lent line counts) in
       (λ i. writtenOf (w .0 i) (back-is line tags (here .way) tag ts (h .0) low (w .1) i) (back-is line counts (here .way) count cs (h .1) low (w .2) i))
       ∙ (λ i. writtenOf (there i .replaced) (set tags (4 * line + there i .way) tag) (set counts (4 * line + there i .way) count))

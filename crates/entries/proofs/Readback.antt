@@ -18,7 +18,7 @@ use Rattle.laws.proofs.Search.{first-at, first-is, first-same}
 use Rattle.laws.proofs.Tests.{Which, below, above, which, true-is-not-false, and-right, cond-at}
 use Rattle.laws.specs.Search.{firstBelow}
 use Rattle.counts.specs.Counts.{isEmpty}
-use Rattle.entries.proofs.Lines.{smallest-lt, room-own, room-empty, room-smallest, room-lt, has-line, line-length}
+use Rattle.entries.proofs.Lines.{smallest-lt, room-cases, room-lt, has-line, line-length}
 use Rattle.entries.specs.Entries.{lineOf, lacksLine, isOwn, ownWay, emptyWay, smallestWay, countIn, countOf, roomFor, Written, writtenOf, written}
 use Rattle.entries.specs.declared.Replaced.{Replaced}
 use Rattle.entries.specs.declared.Replaced.the-variants.{Nothing, Tag}
@@ -53,11 +53,11 @@ module _ (tag : ℕ) (tags : List ℕ) (counts : List ℤ) where
 
   -- so none before the room is either
   before-room : (j : ℕ) → j < roomFor tag tags counts .way → isOwn tag tags counts j ≡ false
-  before-room j l = own (which (ownWay tag tags counts) 4)
-    where
-      own : Which (ownWay tag tags counts) 4 → isOwn tag tags counts j ≡ false
-      own (below h) = before-own j (rw (ap (λ (r : Room). r .way) (room-own tag tags counts _ refl h)) l)
-      own (above h) = before-own j (omega (arith, l, room-lt tag tags counts))
+  before-room j =
+      room-cases tag tags counts (λ r. j < r .way → isOwn tag tags counts j ≡ false)
+      (λ h l. before-own j l)
+      (λ h k l. before-own j (omega arith))
+      (λ h k l. before-own j (omega (arith, smallest-lt counts)))
 
   -- an entry with another tag is not the tag's, nor is an empty one
   other-tag : (t way : ℕ) → (getD tags way 0 ≡ t → ⊥) → isOwn t tags counts way ≡ false
@@ -68,47 +68,37 @@ module _ (tag : ℕ) (tags : List ℕ) (counts : List ℤ) where
   no-entry : (t way : ℕ) → isEmpty (getD counts way (pos 0)) ≡ true → isOwn t tags counts way ≡ false
   no-entry t way e = ap (λ (b : Bool). not b && eqb (getD tags way 0) t) e
 
-  -- what stands in the room is no other tag's entry, or that tag is told as replaced
-  in-room : (t : ℕ) → t ≢ tag → (roomFor tag tags counts .replaced ≡ Tag t → ⊥) → isOwn t tags counts (roomFor tag tags counts .way) ≡ false
-  in-room t ne told = own (which (ownWay tag tags counts) 4)
-    where
-      goal : Room → Type 0
-      goal r = (r .replaced ≡ Tag t → ⊥) → isOwn t tags counts (r .way) ≡ false
-
-      empty : 4 ≤ ownWay tag tags counts → Which (emptyWay counts) 4 → isOwn t tags counts (roomFor tag tags counts .way) ≡ false
-      empty h (below k) = subst goal (room-empty tag tags counts _ _ refl h refl k) (λ n. no-entry t _ (at-empty k)) told
-      empty h (above k) =
-          subst goal (room-smallest tag tags counts _ _ _ refl h refl k refl) (λ n. other-tag t _ (λ e. n (ap Tag e))) told
-
-      own : Which (ownWay tag tags counts) 4 → isOwn t tags counts (roomFor tag tags counts .way) ≡ false
-      own (below h) =
-          let own = ownWay tag tags counts in
-          let mine = eqb-true (getD tags own 0) tag (and-right (not (isEmpty (getD counts own (pos 0)))) (eqb (getD tags own 0) tag) (at-own h)) in
-          subst goal (room-own tag tags counts _ refl h) (λ n. other-tag t _ (λ e. ne (sym e ∙ mine))) told
-      own (above h) = empty h (which (emptyWay counts) 4)
+  -- the tag's own entry has its tag, and no way before the first empty one is empty
+  own-tag : ownWay tag tags counts < 4 → getD tags (ownWay tag tags counts) 0 ≡ tag
+  own-tag h =
+      let way = ownWay tag tags counts in
+      eqb-true _ _ (and-right (not (isEmpty (getD counts way (pos 0)))) (eqb (getD tags way 0) tag) (at-own h))
 
   before-empty : (j : ℕ) → j < emptyWay counts → isEmpty (getD counts j (pos 0)) ≡ false
   unfolding emptyWay
   before-empty j l = first-is 4 (λ way. isEmpty (getD counts way (pos 0))) .before j l
 
-  -- the tag that is replaced is another: one with an entry of its own is written there
+  -- what stands in the room is no other tag's entry, or that tag is told as replaced
+  in-room : (t : ℕ) → t ≢ tag → (roomFor tag tags counts .replaced ≡ Tag t → ⊥) → isOwn t tags counts (roomFor tag tags counts .way) ≡ false
+  in-room t ne =
+      room-cases tag tags counts (λ r. (r .replaced ≡ Tag t → ⊥) → isOwn t tags counts (r .way) ≡ false)
+      (λ h told. other-tag t _ (λ e. ne (sym e ∙ own-tag h)))
+      (λ h k told. no-entry t _ (at-empty k))
+      (λ h k told. other-tag t _ (λ e. told (ap Tag e)))
+
+  -- a full way with the tag would be its own entry
+  no-own : 4 ≤ ownWay tag tags counts → 4 ≤ emptyWay counts → (way : ℕ) → way < 4 → getD tags way 0 ≢ tag
+  no-own h k way l e =
+      let full = before-empty way (omega arith) in
+      true-is-not-false (λ i. not (full i) && eq-eqb (getD tags way 0) tag e i) (before-own way (omega arith))
+
+  -- so the tag that is replaced is another
   replaced-in : (t : ℕ) → roomFor tag tags counts .replaced ≡ Tag t → t ≢ tag
-  replaced-in t told same = own (which (ownWay tag tags counts) 4)
-    where
-      clash : (way : ℕ) → way < 4 → 4 ≤ ownWay tag tags counts → 4 ≤ emptyWay counts → getD tags way 0 ≡ t → ⊥
-      clash way l h k e =
-          let full = before-empty way (omega arith) in
-          true-is-not-false (λ i. not (full i) && eq-eqb (getD tags way 0) tag (e ∙ same) i) (before-own way (omega arith))
-
-      empty : 4 ≤ ownWay tag tags counts → Which (emptyWay counts) 4 → ⊥
-      empty h (below k) = nothing-is-no-tag (rw (← (room-empty tag tags counts _ _ refl h refl k)) at told)
-      empty h (above k) =
-          clash (smallestWay counts) (smallest-lt counts) h k
-          (ap tag-told (rw (← (room-smallest tag tags counts _ _ _ refl h refl k refl)) at told))
-
-      own : Which (ownWay tag tags counts) 4 → ⊥
-      own (below h) = nothing-is-no-tag (rw (← (room-own tag tags counts _ refl h)) at told)
-      own (above h) = empty h (which (emptyWay counts) 4)
+  replaced-in t =
+      room-cases tag tags counts (λ r. r .replaced ≡ Tag t → t ≢ tag)
+      (λ h told. absurd (nothing-is-no-tag told))
+      (λ h k told. absurd (nothing-is-no-tag told))
+      (λ h k told same. no-own h k (smallestWay counts) (smallest-lt counts) (ap tag-told told ∙ same))
 
 -- a line with one entry set
 module _ (tags : List ℕ) (counts : List ℤ) (way tag : ℕ) (count : ℤ) (in-tags : way < length tags) (in-counts : way < length counts) where
@@ -174,9 +164,10 @@ other-line {A} m line way xs v ne h = go (which m line)
         ∙ take-set-le 4 (drop (4 * m) xs) (4 * (line - m) + way) v (omega arith)
     go (above l) = ap (λ (l : List A). take 4 l) (drop-set-lt (4 * m) xs (4 * line + way) v (omega arith))
 
--- a write keeps the lists' lengths, so that they lack the same lines as before
-same-lines : (m i j v : ℕ) (z : ℤ) (tags : List ℕ) (counts : List ℤ) → lacksLine m (set tags i v) (set counts j z) ≡ lacksLine m tags counts
-same-lines m i j v z tags counts = λ k. ltb (length-set tags i v k) (4 * m + 4) || ltb (length-set counts j z k) (4 * m + 4)
+-- setting an entry keeps the lists' lengths, so that they lack the same lines as before
+same-lines : (m i j v : ℕ) (z : ℤ) (tags : List ℕ) (counts : List ℤ)
+    → lacksLine m (length (set tags i v)) (length (set counts j z)) ≡ lacksLine m (length tags) (length counts)
+same-lines m i j v z tags counts = λ k. lacksLine m (length-set tags i v k) (length-set counts j z k)
 
 module _ (line tag : ℕ) (count : ℤ) (tags : List ℕ) (counts : List ℤ) where
   -- what the write leaves, and the room that the entry takes
@@ -190,34 +181,34 @@ module _ (line tag : ℕ) (count : ℤ) (tags : List ℕ) (counts : List ℤ) wh
   low = room-lt tag (lineOf line tags) (lineOf line counts)
 
   -- a line that is not there: nothing is written
-  nothing : lacksLine line tags counts ≡ true → after ≡ writtenOf Nothing tags counts
+  nothing : lacksLine line (length tags) (length counts) ≡ true → after ≡ writtenOf Nothing tags counts
   unfolding written
   nothing e = cond-at _ _ e
 
   -- one that is: its entry is
-  something : lacksLine line tags counts ≡ false
+  something : lacksLine line (length tags) (length counts) ≡ false
       → after ≡ writtenOf (room .replaced) (set tags (4 * line + room .way) tag) (set counts (4 * line + room .way) count)
   unfolding written
   something e = cond-at _ _ e
 
   -- so what holds of both holds of what a write leaves
   cases : (P : Written → Type 0) → P (writtenOf Nothing tags counts)
-      → (lacksLine line tags counts ≡ false → P (writtenOf (room .replaced) (set tags (4 * line + room .way) tag) (set counts (4 * line + room .way) count)))
+      → (lacksLine line (length tags) (length counts) ≡ false → P (writtenOf (room .replaced) (set tags (4 * line + room .way) tag) (set counts (4 * line + room .way) count)))
       → P after
-  cases P none some = go (lacksLine line tags counts) refl
+  cases P none some = go (lacksLine line (length tags) (length counts)) refl
     where
-      go : (b : Bool) → lacksLine line tags counts ≡ b → P after
+      go : (b : Bool) → lacksLine line (length tags) (length counts) ≡ b → P after
       go true e = subst P (sym (nothing e)) none
       go false e = subst P (sym (something e)) (some e)
 
   -- then the room is within the line's part of each list
-  within : lacksLine line tags counts ≡ false → (room .way < length (lineOf line tags)) × (room .way < length (lineOf line counts))
+  within : lacksLine line (length tags) (length counts) ≡ false → (room .way < length (lineOf line tags)) × (room .way < length (lineOf line counts))
   within e =
-      let h = has-line line tags counts e in
+      let h = has-line line (length tags) (length counts) e in
       (omega (arith, low, line-length line tags (h .0)), omega (arith, low, line-length line counts (h .1)))
 
   -- what was written is read back
-  pub read-back : lacksLine line tags counts ≡ false → isEmpty count ≡ false → countOf line tag (after .tags) (after .counts) ≡ count
+  pub read-back : lacksLine line (length tags) (length counts) ≡ false → isEmpty count ≡ false → countOf line tag (after .tags) (after .counts) ≡ count
   unfolding countOf
   read-back e full =
       rw (something e, own-line line (room .way) tags tag low, own-line line (room .way) counts count low)
@@ -225,7 +216,7 @@ module _ (line tag : ℕ) (count : ℤ) (tags : List ℕ) (counts : List ℤ) wh
       ∙ own-read (lineOf line tags) (lineOf line counts) (room .way) tag count (within e .0) (within e .1) low
       (before-room tag (lineOf line tags) (lineOf line counts)) full)
 
-  kept : (t : ℕ) → t ≢ tag → lacksLine line tags counts ≡ false → (room .replaced ≡ Tag t → ⊥)
+  kept : (t : ℕ) → t ≢ tag → lacksLine line (length tags) (length counts) ≡ false → (room .replaced ≡ Tag t → ⊥)
       → countOf line t (set tags (4 * line + room .way) tag) (set counts (4 * line + room .way) count) ≡ countOf line t tags counts
   unfolding countOf
   kept t ne e told =
@@ -267,4 +258,4 @@ module _ (line tag : ℕ) (count : ℤ) (tags : List ℕ) (counts : List ℤ) wh
   other-lines-keep m t ne =
       let same = other-lines m ne in
       let long = same-lengths in
-      λ i. cond (ltb (long .0 i) (4 * m + 4) || ltb (long .1 i) (4 * m + 4)) (pos 0) (countIn t (same .0 i) (same .1 i))
+      λ i. cond (lacksLine m (long .0 i) (long .1 i)) (pos 0) (countIn t (same .0 i) (same .1 i))

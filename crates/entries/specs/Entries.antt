@@ -18,10 +18,10 @@ use Rattle.entries.specs.declared.Room.{Room}
 abbrev pub lineOf : {A : Type 0} → ℕ → List A → List A
 lineOf line list = take 4 (drop (4 * line) list)
 
--- a list ends before the line does. A gateway's tables have each line that an address may be in; where one is not there, no address has
--- an entry in it, and nothing is written.
-abbrev pub lacksLine : ℕ → List ℕ → List ℤ → Bool
-lacksLine line tags counts = ltb (length tags) (4 * line + 4) || ltb (length counts) (4 * line + 4)
+-- lists of so many tags and counts end before the line does. A gateway's tables have each line that an address may be in; where one is
+-- not there, no address has an entry in it, and nothing is written.
+abbrev pub lacksLine : ℕ → ℕ → ℕ → Bool
+lacksLine line tags counts = ltb tags (4 * line + 4) || ltb counts (4 * line + 4)
 
 -- ---- in one line: its four tags and its four counts
 -- the entry of a way is the tag's: "non-empty", "with its tag"
@@ -61,7 +61,7 @@ roomFor tag tags counts =
 -- ---- in the table
 -- an address's count, by its line and tag
 unfoldable pub countOf : ℕ → ℕ → List ℕ → List ℤ → ℤ
-countOf line tag tags counts = cond (lacksLine line tags counts) (pos 0) (countIn tag (lineOf line tags) (lineOf line counts))
+countOf line tag tags counts = cond (lacksLine line (length tags) (length counts)) (pos 0) (countIn tag (lineOf line tags) (lineOf line counts))
 
 -- what a write leaves: the tag that it replaced, and both lists
 pub record Written : Type 0 where
@@ -75,7 +75,7 @@ writtenOf replaced tags counts = record { replaced = replaced; tags = tags; coun
 -- an address's entry written: one tag and one count of the table, and no other number
 unfoldable pub written : ℕ → ℕ → ℤ → List ℕ → List ℤ → Written
 written line tag count tags counts =
-    cond (lacksLine line tags counts)
+    cond (lacksLine line (length tags) (length counts))
     (writtenOf Nothing tags counts)
     (writtenOf (room .replaced) (set tags (4 * line + room .way) tag) (set counts (4 * line + room .way) count))
   where

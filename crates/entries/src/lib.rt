@@ -1,10 +1,7 @@
 // The entries of the address table: a list of tags and a list of counts, four of each to a line.
 ghost use mathlib.Core.Path.{_≡_};
-ghost use mathlib.Core.Bool.{_||_};
-ghost use Prim.Native.Nat.{_+_, _*_};
-ghost use lib.Dec.{ltb};
 ghost use lib.ListN.{length, set};
-ghost use Rattle.entries.specs.Entries.{ownWay, emptyWay, smallestWay, roomFor, countIn, countOf, writtenOf, written};
+ghost use Rattle.entries.specs.Entries.{lacksLine, ownWay, emptyWay, smallestWay, roomFor, countIn, countOf, writtenOf, written};
 
 // What a write pushed out of its line.
 pub enum Replaced {
@@ -105,7 +102,7 @@ fn count_in(tags: &[u32], counts: &[i16], tag: u32) -> i16
 
 // Whether lists of these lengths end before a line does.
 fn lacks_line(tags: usize, counts: usize, line: u32) -> bool
-    ensures { λ r. ⌜ r ≡ (ltb tags (4 * line + 4) || ltb counts (4 * line + 4)) ⌝ }
+    ensures { λ r. ⌜ r ≡ lacksLine line tags counts ⌝ }
 {
     let end = 4 * (line as usize) + 4;
     (tags < end) | (counts < end)

@@ -2,6 +2,8 @@
 -- Assumes nothing.
 use mathlib.Core.Bool.{false}
 use mathlib.Core.Path.{_≡_, sym, _∙_}
+use Prim.Native.Nat.{_+_, _*_, _≤_}
+use lib.ListN.{length}
 use denote.Ref.{now}
 use mir.Syntax.{w16}
 use mir.ValLaws.{toZ-ofZ}
@@ -20,8 +22,15 @@ unfolding written
 returns c = sym (cond-at _ _ (sym (c .before .lacks-line .ensures) ∙ c .if1 .taken))
 
 -- past the first test the lists have the line
-has : (c : tie.Else1) → let s = c .before .before .before in lacksLine (s .args .line) (now (s .args .tags)) (now (s .args .counts)) ≡ false
+has : (c : tie.Else1) → let s = c .before .before .before in lacksLine (s .args .line) (length (now (s .args .tags))) (length (now (s .args .counts)))
+    ≡ false
 has c = sym (c .before .lacks-line .ensures) ∙ c .if1 .left
+
+reach : (c : tie.Else1) → let s = c .before .before .before in
+    (4 * s .args .line + 4 ≤ length (now (s .args .tags))) × (4 * s .args .line + 4 ≤ length (now (s .args .counts)))
+reach c =
+    let s = c .before .before .before in
+    has-line (s .args .line) (length (now (s .args .tags))) (length (now (s .args .counts))) (has c)
 
 mul-at : tie.Need-mul-at
 mul-at c = search needs
@@ -40,8 +49,7 @@ part-write-entry-start c = search needs
 
 part-write-entry-end : tie.Need-part-write-entry-end
 part-write-entry-end c =
-    let s = c .before .before .before in
-    let h = has-line (s .args .line) (now (s .args .tags)) (now (s .args .counts)) (has c) in
+    let h = reach c in
     search needs
 
 add-write-entry-2 : tie.Need-add-write-entry-2
@@ -58,8 +66,7 @@ part-write-entry-start-2 c = search needs
 
 part-write-entry-end-2 : tie.Need-part-write-entry-end-2
 part-write-entry-end-2 c =
-    let s = c .before .before .before .before in
-    let h = has-line (s .args .line) (now (s .args .tags)) (now (s .args .counts)) (has (c .before)) in
+    let h = reach (c .before) in
     search needs
 
 write-entry-requires : tie.Need-write-entry-requires
