@@ -10,7 +10,7 @@ use lib.IntN.{ℤ, pos, negsuc, _+ℤ_, _-ℤ_}
 use lib.Signed.{leZ, ltZ}
 use mir.Syntax.{w16, w32}
 use mir.Val.{SFits, toZ, ofZ}
-use mir.ValLaws.{toZ-ofZ}
+use mir.ValLaws.{toZ-ofZ, toZ-pos}
 use Rattle.laws.proofs.Tests.{eqb-same, cond-at}
 use Rattle.laws.proofs.Signed.{up, dn, signed, known, sfits-out, ltZ-true, ltZ-false, leZ-yes, sum-is, difference-is, one-part}
 use Rattle.laws.specs.Times.{times}
@@ -29,6 +29,17 @@ wider f = sfits-out _ (omega (signed, known f))
 
 pub wide-is : {z : ℤ} → SFits w16 z → toZ w32 (ofZ w32 (toZ w16 (ofZ w16 z))) ≡ z
 wide-is {z} f = toZ-ofZ w32 (toZ w16 (ofZ w16 z)) (wider f) ∙ toZ-ofZ w16 z f
+
+-- a sum or a difference of a count and some points, made in 32 bits, and the local that holds it
+module _ (op : ℤ → ℤ → ℤ) {z : ℤ} (f : SFits w16 z) (points : ℕ) (few : points < 256) where
+  abbrev made : ℤ
+  made = op (toZ w32 (ofZ w32 (toZ w16 (ofZ w16 z)))) (toZ w32 points)
+
+  pub made-is : made ≡ op z (pos points)
+  made-is = λ i. op (wide-is f i) (toZ-pos w32 points (omega arith) i)
+
+  pub held-is : SFits w32 made → toZ w32 (ofZ w32 made) ≡ op z (pos points)
+  held-is g = toZ-ofZ w32 made g ∙ made-is
 
 -- ---- raised
 -- where the ceiling has room, the count is raised by all its points

@@ -4,12 +4,14 @@ use mathlib.Core.Path.{_≡_, refl, sym, ap, _∙_}
 use mathlib.Core.Bool.{Bool, true, false, not, _||_, cond}
 use Prim.Native.Nat.{ℕ, zero, suc, _+_, _%_, _/_, _≤_, _<_, min}
 use native.Mathlib.Omega.{arith}
-use lib.Dec.{ltb, eqb}
+use lib.Dec.{ltb}
 use borrow.Author.Tests.{lt-ltb, le-ltb, eq-eqb, ne-eqb}
 use Rattle.laws.specs.Times.{times}
 use Rattle.laws.proofs.Times.{times-none, times-more, times-add}
 use Rattle.laws.proofs.Tests.{Which, below, above, which}
+use Rattle.records.specs.declared.Marks.{Marks}
 use Rattle.records.specs.Records.{plantSeen, cellSeen, isCold, ageOf, minutePassed, agedBy}
+use Rattle.records.proofs.Parts.{same-marks, older-age}
 
 -- ---- marks
 pub low-is-cold : (b : ℕ) → b < 64 → isCold b ≡ true
@@ -27,12 +29,9 @@ high-is-marked b h l = go (which b 128)
         λ i. not (plant i || cell i)
     go (above k) = ap (λ (t : Bool). not (t || cellSeen b)) (eq-eqb (b / 128 % 2) 1 (omega arith))
 
--- an age that six bits hold leaves the marks alone
-same-marks : (b m : ℕ) → ageOf b + m ≤ 63 → isCold (b + m) ≡ isCold b
-same-marks b m h =
-    let plant : (b + m) / 128 % 2 ≡ b / 128 % 2 = omega arith in
-    let cell : (b + m) / 64 % 2 ≡ b / 64 % 2 = omega arith in
-    λ i. not (eqb (plant i) 1 || eqb (cell i) 1)
+-- an age that six bits hold leaves it so
+same-cold : (b m : ℕ) → ageOf b + m ≤ 63 → isCold (b + m) ≡ isCold b
+same-cold b m h = ap (λ (x : Marks). not (x .plant || x .cell)) (same-marks b m h)
 
 -- ---- one boundary
 module _ (d b : ℕ) where
@@ -79,10 +78,10 @@ aged-cold d (suc (suc m)) b c h =
 pub aged-kept : (d m b : ℕ) → isCold b ≡ false → ageOf b + m ≤ min d 63 → agedBy d m b ≡ b + m
 aged-kept d zero b c h = aged-none d b ∙ omega arith
 aged-kept d (suc m) b c h =
-    let older : ageOf (b + m) ≡ ageOf b + m = omega arith in
+    let older = older-age b m (omega arith) in
     aged-more d m b
     ∙ ap (minutePassed d) (aged-kept d m b c (omega arith))
-    ∙ one-older d (b + m) (same-marks b m (omega arith) ∙ c) (omega arith)
+    ∙ one-older d (b + m) (same-cold b m (omega arith) ∙ c) (omega arith)
     ∙ omega arith
 
 -- and 0 once it is
@@ -95,7 +94,7 @@ aged-old d (suc (suc m)) b c h p = aged-more d (suc m) b ∙ last (which (min d 
     last : Which (min d 63) (ageOf b + suc m) → (min d 63 < ageOf b + suc m → 0 < suc m → agedBy d (suc m) b ≡ 0) → minutePassed d (agedBy d (suc m) b) ≡ 0
     last (below l) before = ap (minutePassed d) (before l (omega arith)) ∙ zero-stays d
     last (above l) before =
-        let age : ageOf (b + suc m) ≡ ageOf b + suc m = omega arith in
+        let older = older-age b (suc m) (omega arith) in
         ap (minutePassed d) (aged-kept d (suc m) b c l) ∙ cleared-old d (b + suc m) (omega arith)
 
 -- ---- in bytes

@@ -5,19 +5,14 @@ use native.Mathlib.Omega.{arith}
 use lib.IntN.{pos, _-ℤ_}
 use mir.Syntax.{w16, w32}
 use mir.Val.{toZ, ofZ}
-use mir.ValLaws.{toZ-ofZ, toZ-pos}
+use mir.ValLaws.{toZ-ofZ}
 use borrow.Author.Needs.{needs}
 use Rattle.laws.proofs.Signed.{signed, difference-is, sfits-out, known, leZ-yes, leZ-no}
 use Rattle.laws.proofs.Tests.{cond-at}
-use Rattle.counts.proofs.Counts.{wider, wide-is}
+use Rattle.counts.proofs.Counts.{wider, wide-is, made-is, held-is}
 use Rattle.counts.specs.Counts.{larger}
 use Rattle.counts.proofs.lowered.Statement.{statement}
 use Rattle.counts.proofs.lowered.Tie as tie
-
--- what the machine makes in 32 bits is the difference of the numbers
-plain : (c : tie.Start) → toZ w32 (ofZ w32 (toZ w16 (ofZ w16 (c .args .count)))) -ℤ toZ w32 (c .args .points)
-    ≡ c .args .count -ℤ pos (c .args .points)
-plain c = λ i. wide-is (c .fits .count) i -ℤ toZ-pos w32 (c .args .points) (omega arith) i
 
 cast-left : tie.Need-cast-left
 cast-left c = wider (c .fits .count)
@@ -26,12 +21,12 @@ cast-left-2 : tie.Need-cast-left-2
 cast-left-2 c = search needs
 
 sub-left : tie.Need-sub-left
-sub-left c = rw (plain c) (sfits-out _ (omega (signed, difference-is (c .args .count) (pos (c .args .points)), known (c .fits .count))))
+sub-left c = rw (made-is _-ℤ_ (c .fits .count) (c .args .points) (omega arith)) (sfits-out _ (omega (signed, difference-is (c .args .count) (pos (c .args .points)), known (c .fits .count))))
 
--- and so is the local that holds it
+-- the local that holds it
 left-is : (c : tie.Start) → toZ w32 (ofZ w32 (toZ w32 (ofZ w32 (toZ w16 (ofZ w16 (c .args .count)))) -ℤ toZ w32 (c .args .points)))
     ≡ c .args .count -ℤ pos (c .args .points)
-left-is c = toZ-ofZ w32 _ (sub-left c) ∙ plain c
+left-is c = held-is _-ℤ_ (c .fits .count) (c .args .points) (omega arith) (sub-left c)
 
 cast-if1 : tie.Need-cast-if1
 cast-if1 c = wider (c .fits .floor)

@@ -5,19 +5,14 @@ use native.Mathlib.Omega.{arith}
 use lib.IntN.{pos, _+ℤ_}
 use mir.Syntax.{w16, w32}
 use mir.Val.{toZ, ofZ}
-use mir.ValLaws.{toZ-ofZ, toZ-pos}
+use mir.ValLaws.{toZ-ofZ}
 use borrow.Author.Needs.{needs}
 use Rattle.laws.proofs.Signed.{signed, sum-is, sfits-out, known, leZ-yes, leZ-no}
 use Rattle.laws.proofs.Tests.{cond-at}
 use Rattle.counts.specs.Counts.{larger, raisedBy}
-use Rattle.counts.proofs.Counts.{wider, wide-is, raised-within, raised-over}
+use Rattle.counts.proofs.Counts.{wider, wide-is, made-is, held-is, raised-within, raised-over}
 use Rattle.counts.proofs.raised.Statement.{statement}
 use Rattle.counts.proofs.raised.Tie as tie
-
--- what the machine makes in 32 bits is the sum of the numbers
-plain : (c : tie.Start) → toZ w32 (ofZ w32 (toZ w16 (ofZ w16 (c .args .count)))) +ℤ toZ w32 (c .args .points)
-    ≡ c .args .count +ℤ pos (c .args .points)
-plain c = λ i. wide-is (c .fits .count) i +ℤ toZ-pos w32 (c .args .points) (omega arith) i
 
 cast-sum : tie.Need-cast-sum
 cast-sum c = wider (c .fits .count)
@@ -26,12 +21,12 @@ cast-sum-2 : tie.Need-cast-sum-2
 cast-sum-2 c = search needs
 
 add-sum : tie.Need-add-sum
-add-sum c = rw (plain c) (sfits-out _ (omega (signed, sum-is (c .args .count) (pos (c .args .points)), known (c .fits .count))))
+add-sum c = rw (made-is _+ℤ_ (c .fits .count) (c .args .points) (omega arith)) (sfits-out _ (omega (signed, sum-is (c .args .count) (pos (c .args .points)), known (c .fits .count))))
 
--- and so is the local that holds it
+-- the local that holds it
 total-is : (c : tie.Start) → toZ w32 (ofZ w32 (toZ w32 (ofZ w32 (toZ w16 (ofZ w16 (c .args .count)))) +ℤ toZ w32 (c .args .points)))
     ≡ c .args .count +ℤ pos (c .args .points)
-total-is c = toZ-ofZ w32 _ (add-sum c) ∙ plain c
+total-is c = held-is _+ℤ_ (c .fits .count) (c .args .points) (omega arith) (add-sum c)
 
 cast-if1 : tie.Need-cast-if1
 cast-if1 c = wider (c .fits .ceiling)
