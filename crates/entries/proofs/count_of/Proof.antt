@@ -1,7 +1,6 @@
 -- `entries::count_of` meets its contract: the count in the line that is lent.
 -- Assumes nothing.
-use mathlib.Core.Bool.{false}
-use mathlib.Core.Path.{_≡_, sym, _∙_}
+use mathlib.Core.Path.{sym, _∙_}
 use Prim.Native.Nat.{_+_, _*_, _≤_}
 use lib.ListN.{length}
 use denote.Ref.{now}
@@ -10,7 +9,7 @@ use mir.ValLaws.{toZ-ofZ}
 use borrow.Author.Needs.{needs}
 use Rattle.laws.proofs.Tests.{cond-at}
 use Rattle.entries.proofs.Lines.{has-line, lent-is}
-use Rattle.entries.specs.Entries.{lacksLine, countIn, countOf}
+use Rattle.entries.specs.Entries.{countIn, countOf}
 use Rattle.entries.proofs.count_of.Statement.{statement}
 use Rattle.entries.proofs.count_of.Tie as tie
 
@@ -21,16 +20,10 @@ returns : tie.Need-returns
 unfolding countOf
 returns c = sym (cond-at _ _ (sym (c .before .lacks-line .ensures) ∙ c .if1 .taken))
 
--- past the first test the lists have the line
-has : (c : tie.Else1) → let s = c .before .before .before in lacksLine (s .args .line) (length (now (s .args .tags))) (length (now (s .args .counts)))
-    ≡ false
-has c = sym (c .before .lacks-line .ensures) ∙ c .if1 .left
-
+-- past the first test the lists reach to the line's end
 reach : (c : tie.Else1) → let s = c .before .before .before in
     (4 * s .args .line + 4 ≤ length (now (s .args .tags))) × (4 * s .args .line + 4 ≤ length (now (s .args .counts)))
-reach c =
-    let s = c .before .before .before in
-    has-line (s .args .line) (length (now (s .args .tags))) (length (now (s .args .counts))) (has c)
+reach c = has-line (c .before .before .before .args .line) _ _ (sym (c .before .lacks-line .ensures) ∙ c .if1 .left)
 
 mul-at : tie.Need-mul-at
 mul-at c = search needs
@@ -80,7 +73,7 @@ returns-2 c =
     toZ-ofZ w16 _ (record { sfits = c .count-in .ok })
     ∙ c .count-in .ensures
     ∙ (λ i. countIn (s .args .tag) (lent-is (s .args .line) (now (s .args .tags)) i) (lent-is (s .args .line) (now (s .args .counts)) i))
-    ∙ sym (cond-at _ _ (has w))
+    ∙ sym (cond-at _ _ (sym (w .before .lacks-line .ensures) ∙ w .if1 .left))
 
 pub count-of-spec : {M : Type 1} → statement M
 count-of-spec =

@@ -1,7 +1,6 @@
 -- `entries::write` meets its contract: what the writer did to the line, said of the table.
 -- Assumes nothing.
-use mathlib.Core.Bool.{false}
-use mathlib.Core.Path.{_≡_, sym, _∙_}
+use mathlib.Core.Path.{sym, _∙_}
 use Prim.Native.Nat.{_+_, _*_, _≤_}
 use lib.ListN.{length}
 use denote.Ref.{now}
@@ -10,7 +9,7 @@ use mir.ValLaws.{toZ-ofZ}
 use borrow.Author.Needs.{needs}
 use Rattle.laws.proofs.Tests.{cond-at}
 use Rattle.entries.proofs.Lines.{has-line, line-written}
-use Rattle.entries.specs.Entries.{lacksLine, written}
+use Rattle.entries.specs.Entries.{written}
 use Rattle.entries.proofs.write.Statement.{statement}
 use Rattle.entries.proofs.write.Tie as tie
 
@@ -21,16 +20,10 @@ returns : tie.Need-returns
 unfolding written
 returns c = sym (cond-at _ _ (sym (c .before .lacks-line .ensures) ∙ c .if1 .taken))
 
--- past the first test the lists have the line
-has : (c : tie.Else1) → let s = c .before .before .before in lacksLine (s .args .line) (length (now (s .args .tags))) (length (now (s .args .counts)))
-    ≡ false
-has c = sym (c .before .lacks-line .ensures) ∙ c .if1 .left
-
+-- past the first test the lists reach to the line's end
 reach : (c : tie.Else1) → let s = c .before .before .before in
     (4 * s .args .line + 4 ≤ length (now (s .args .tags))) × (4 * s .args .line + 4 ≤ length (now (s .args .counts)))
-reach c =
-    let s = c .before .before .before in
-    has-line (s .args .line) (length (now (s .args .tags))) (length (now (s .args .counts))) (has c)
+reach c = has-line (c .before .before .before .args .line) _ _ (sym (c .before .lacks-line .ensures) ∙ c .if1 .left)
 
 mul-at : tie.Need-mul-at
 mul-at c = search needs
@@ -83,7 +76,7 @@ returns-2 c =
     let w = c .before .before .before in
     let e = w .before .before .before in
     let s = e .before .before .before in
-    line-written (s .args .line) (s .args .tag) (s .args .count) (now (s .args .tags)) (now (s .args .counts)) _ _ _ (has e)
+    line-written (s .args .line) (s .args .tag) (s .args .count) (now (s .args .tags)) (now (s .args .counts)) _ _ _ (sym (e .before .lacks-line .ensures) ∙ e .if1 .left)
     (rw (toZ-ofZ w16 _ (s .fits .count)) at (w .write-entry .ensures))
 
 pub write-spec : {M : Type 1} → statement M
