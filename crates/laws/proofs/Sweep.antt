@@ -75,11 +75,24 @@ module _ {A : Type 0} where
   pub sweep-end : {f : A → A} {d l : List A} {i : ℕ} → Sweeping f d l i → length l ≤ i → l ≡ map f d
   sweep-end {f} {d} {l} {i} s h = s .is ∙ swept-all f i d (omega arith)
 
-  -- ---- whole tables
+  -- ---- a fill: the sweep that makes every element v
+  abbrev pub Filling : A → List A → List A → ℕ → Type 0
+  Filling v d l i = Sweeping (λ (x : A). v) d l i
+
+  pub fill-start : (v : A) (d : List A) → Filling v d d 0
+  fill-start v d = sweep-start _ d
+
+  pub fill-turn : {v : A} {d l : List A} {i : ℕ} → Filling v d l i → i < length l → Filling v d (set l i v) (i + 1)
+  fill-turn {v} s h = sweep-turn v v s h refl
+
   pub map-const : (v : A) (l : List A) → map (λ (x : A). v) l ≡ replicate (length l) v
   map-const v [] = refl
   map-const v (x ∷ l) = ap (λ (t : List A). v ∷ t) (map-const v l)
 
+  pub fill-end : {v : A} {d l : List A} {i : ℕ} → Filling v d l i → length l ≤ i → l ≡ replicate (length d) v
+  fill-end {v} {d} s h = sweep-end s h ∙ map-const v d
+
+  -- ---- whole tables
   pub map-same : (f : A → A) → ((x : A) → f x ≡ x) → (l : List A) → map f l ≡ l
   map-same f h [] = refl
   map-same f h (x ∷ l) = λ i. h x i ∷ map-same f h l i

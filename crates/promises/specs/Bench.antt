@@ -25,15 +25,15 @@ row number computed said = record { number = number; computed = computed; said =
 abbrev pub zeros : List ℕ
 zeros = replicate 8 0
 
--- a count, and a record with both marks and an age, after a time was passed; Dmiss 60, Dconn 10
+-- a count, and a record with both marks and an age, after a time was passed; a point of 1, Dmiss 60, Dconn 10
 abbrev countAfter : ℤ → ℕ → ℕ → List ℤ
-countAfter count old new = timePassed 60 10 new (timedOf [] (count ∷ []) old) .counts
+countAfter count old new = timePassed 1 60 10 new (timedOf [] (count ∷ []) old) .counts
 
 abbrev both : Marks
 both = record { plant = true; cell = true }
 
 abbrev recordAfter : ℕ → ℕ → ℕ → List ℤ
-recordAfter age old new = map pos (timePassed 60 10 new (timedOf (recordOf both age ∷ []) [] old) .records)
+recordAfter age old new = map pos (timePassed 1 60 10 new (timedOf (recordOf both age ∷ []) [] old) .records)
 
 unfoldable pub table : List Row
 table =

@@ -2,8 +2,8 @@
 -- Assumes nothing.
 use mathlib.Core.List.{List, map}
 use mathlib.Core.Path.{_≡_, refl, sym, ap, _∙_}
-use Prim.Native.Nat.{ℕ, zero, suc, _+_, _-_, _/_, _%_, _≤_, max}
-use native.Mathlib.Nat.{mod-zero, div-zero}
+use Prim.Native.Nat.{ℕ, zero, suc, _+_, _-_, _*_, _/_, _%_, _≤_, max}
+use native.Mathlib.Nat.{mod-zero, div-zero, add-mul, zero-mul}
 use native.Mathlib.Omega.{arith}
 use lib.Dec.{eqb}
 use lib.IntN.{ℤ}
@@ -52,25 +52,37 @@ pub passed-add : (k a b c : ℕ) → a ≤ b → b ≤ c → multiplesPassed k a
 passed-add k a b c h l =
     omega (arith, passed-is k a b h, passed-is k b c l, passed-is k a c (omega arith), quotient-up k h, quotient-up k l)
 
+-- ---- points
+-- a count after so many multiples, of which each takes a point
+abbrev decays : ℕ → ℕ → ℤ → ℤ
+decays point multiples = decayedBy (multiples * point)
+
+-- none leave it, and several add up
+decays-none : (point : ℕ) (z : ℤ) → decays point 0 z ≡ z
+decays-none point z = ap (λ (n : ℕ). decayedBy n z) (zero-mul point) ∙ decayed-none z
+
+decays-add : (point m n : ℕ) (z : ℤ) → decays point (m + n) z ≡ decays point n (decays point m z)
+decays-add point m n z = ap (λ (k : ℕ). decayedBy k z) (add-mul m n point) ∙ decayed-add (m * point) (n * point) z
+
 -- ---- both tables
 -- no boundary: every record and every count as it was
 not-aged : (d m : ℕ) → m ≡ 0 → (xs : List ℕ) → map (agedBy d m) xs ≡ xs
 not-aged d = map-none (agedBy d) (aged-none d)
 
-not-decayed : (m : ℕ) → m ≡ 0 → (zs : List ℤ) → map (decayedBy m) zs ≡ zs
-not-decayed = map-none decayedBy decayed-none
+not-decayed : (point m : ℕ) → m ≡ 0 → (zs : List ℤ) → map (decays point m) zs ≡ zs
+not-decayed point = map-none (decays point) (decays-none point)
 
-module _ (dmiss dconn : ℕ) where
-  pub clock-is : (time : ℕ) (m : Timed) → timePassed dmiss dconn time m .clock ≡ max (m .clock) time
+module _ (point dmiss dconn : ℕ) where
+  pub clock-is : (time : ℕ) (m : Timed) → timePassed point dmiss dconn time m .clock ≡ max (m .clock) time
   unfolding timePassed
   clock-is time m = refl
 
   -- a time that is not after the clock changes nothing
-  pub stands : (time : ℕ) (m : Timed) → time ≤ m .clock → timePassed dmiss dconn time m ≡ m
+  pub stands : (time : ℕ) (m : Timed) → time ≤ m .clock → timePassed point dmiss dconn time m ≡ m
   unfolding timePassed
   stands time m h = λ i. timedOf
       (not-aged dconn (multiplesPassed 60 (m .clock) time) (passed-none 60 (m .clock) time h) (m .records) i)
-      (not-decayed (multiplesPassed dmiss (m .clock) time) (passed-none dmiss (m .clock) time h) (m .counts) i)
+      (not-decayed point (multiplesPassed dmiss (m .clock) time) (passed-none dmiss (m .clock) time h) (m .counts) i)
       (last i)
     where
       last : max (m .clock) time ≡ m .clock
@@ -79,27 +91,27 @@ module _ (dmiss dconn : ℕ) where
   -- one that is moves the clock there, after a sweep of each table
   pub moves : {time minutes multiples : ℕ} (m : Timed) {records : List ℕ} {counts : List ℤ} → m .clock ≤ time
       → minutes ≡ multiplesPassed 60 (m .clock) time → multiples ≡ multiplesPassed dmiss (m .clock) time
-      → records ≡ map (agedBy dconn minutes) (m .records) → counts ≡ map (decayedBy multiples) (m .counts)
-      → timedOf records counts time ≡ timePassed dmiss dconn time m
+      → records ≡ map (agedBy dconn minutes) (m .records) → counts ≡ map (decayedBy (multiples * point)) (m .counts)
+      → timedOf records counts time ≡ timePassed point dmiss dconn time m
   unfolding timePassed
   moves {time} m h p q r s =
       let last : time ≡ max (m .clock) time = omega arith in
       (λ i. timedOf (r i) (s i) (last i))
-      ∙ (λ i. timedOf (map (agedBy dconn (p i)) (m .records)) (map (decayedBy (q i)) (m .counts)) (max (m .clock) time))
+      ∙ (λ i. timedOf (map (agedBy dconn (p i)) (m .records)) (map (decays point (q i)) (m .counts)) (max (m .clock) time))
 
   -- "Without a boundary only the clock changes."
   pub only-the-clock : (time : ℕ) (m : Timed) → multiplesPassed 60 (m .clock) time ≡ 0 → multiplesPassed dmiss (m .clock) time ≡ 0
-      → timePassed dmiss dconn time m ≡ timedOf (m .records) (m .counts) (max (m .clock) time)
+      → timePassed point dmiss dconn time m ≡ timedOf (m .records) (m .counts) (max (m .clock) time)
   unfolding timePassed
-  only-the-clock time m p q = λ i. timedOf (not-aged dconn _ p (m .records) i) (not-decayed _ q (m .counts) i) (max (m .clock) time)
+  only-the-clock time m p q = λ i. timedOf (not-aged dconn _ p (m .records) i) (not-decayed point _ q (m .counts) i) (max (m .clock) time)
 
   -- a jump is two jumps by way of any moment between
   pub by-way-of : (between time : ℕ) (m : Timed) → m .clock ≤ between → between ≤ time
-      → timePassed dmiss dconn time m ≡ timePassed dmiss dconn time (timePassed dmiss dconn between m)
+      → timePassed point dmiss dconn time m ≡ timePassed point dmiss dconn time (timePassed point dmiss dconn between m)
   unfolding timePassed
   by-way-of between time m h l = λ i. timedOf
       (map-added (agedBy dconn) (aged-add dconn) _ _ _ (split 60) (m .records) i)
-      (map-added decayedBy decayed-add _ _ _ (split dmiss) (m .counts) i)
+      (map-added (decays point) (decays-add point) _ _ _ (split dmiss) (m .counts) i)
       (last i)
     where
       there : max (m .clock) between ≡ between
@@ -114,18 +126,18 @@ module _ (dmiss dconn : ℕ) where
 
   -- one second
   abbrev pub aSecond : Timed → Timed
-  aSecond m = timePassed dmiss dconn (suc (m .clock)) m
+  aSecond m = timePassed point dmiss dconn (suc (m .clock)) m
 
   -- demand 2: "Passing a gap in one jump leaves the same state as passing it second by second."
-  pub second-by-second : (gap : ℕ) (m : Timed) → times gap aSecond m ≡ timePassed dmiss dconn (m .clock + gap) m
+  pub second-by-second : (gap : ℕ) (m : Timed) → times gap aSecond m ≡ timePassed point dmiss dconn (m .clock + gap) m
   second-by-second zero m =
       times-none aSecond m ∙ sym (stands (m .clock + 0) m (omega arith))
   second-by-second (suc gap) m =
       let before = second-by-second gap m in
       times-more aSecond gap m
       ∙ ap aSecond before
-      ∙ ap (λ (t : ℕ). timePassed dmiss dconn t (timePassed dmiss dconn (m .clock + gap) m)) (next gap)
+      ∙ ap (λ (t : ℕ). timePassed point dmiss dconn t (timePassed point dmiss dconn (m .clock + gap) m)) (next gap)
       ∙ sym (by-way-of (m .clock + gap) (m .clock + suc gap) m (omega arith) (omega arith))
     where
-      next : (g : ℕ) → suc (timePassed dmiss dconn (m .clock + g) m .clock) ≡ m .clock + suc g
+      next : (g : ℕ) → suc (timePassed point dmiss dconn (m .clock + g) m .clock) ≡ m .clock + suc g
       next g = omega (arith, clock-is (m .clock + g) m)

@@ -1,0 +1,2 @@
+-- What is proved of verdicts beyond the contracts.
+pub mod Steps

@@ -1,0 +1,43 @@
+-- What a run's rules are made of, and document 01's own. The gateway's step is defined over any such rules.
+-- Assumes nothing.
+use mathlib.Core.Bool.{Bool, cond}
+use mathlib.Core.Option.{Option, none}
+use Prim.Native.Nat.{ℕ}
+use lib.IntN.{ℤ}
+use Rattle.packet.specs.declared.Header.{Header}
+use Rattle.packet.specs.Kinds.{portOf}
+use Rattle.places.specs.Places.{slotOf}
+use Rattle.settings.specs.declared.Settings.{Settings}
+
+-- the two ends of a packet of ours, by whether it comes from the plant
+abbrev pub cellOf : Header → Bool → ℕ
+cellOf h fromPlant = cond fromPlant (h .destination) (h .source)
+
+abbrev pub plantOf : Header → Bool → ℕ
+plantOf h fromPlant = cond fromPlant (h .source) (h .destination)
+
+pub record Rules : Type 0 where
+  -- T and Cmin, as counts
+  pub threshold : ℕ
+  pub floor : ℤ
+  -- the size of a point: a credit of one takes it from a count, and so does each multiple of Dmiss passed
+  pub point : ℕ
+  -- what a fresh contact, this packet, adds to its cell address's count
+  pub weight : Header → Bool → ℕ
+  -- the count that an attempt, dropped as blocked on a slot with neither mark, writes over this one, if it writes
+  pub attempt : Header → ℤ → Option ℤ
+  -- the slot of a packet of ours, among so many records
+  pub slot : Header → Bool → ℕ → ℕ
+
+-- Document 01's rules, by the settings: counts are in points; "count+1 for 4"; "Dropped packets alter neither table"; a slot is that of
+-- plant address, cell address and port.
+abbrev pub document01 : Settings → Rules
+document01 set =
+    record {
+      threshold = set .threshold;
+      floor = set .floor;
+      point = 1;
+      weight = λ h fromPlant. 1;
+      attempt = λ h count. none;
+      slot = λ h fromPlant records. slotOf (set .keys) (plantOf h fromPlant) (cellOf h fromPlant) (portOf h fromPlant) records;
+    }

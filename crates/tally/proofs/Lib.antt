@@ -1,0 +1,2 @@
+-- What is proved of the tally beyond the contracts.
+pub mod Totals

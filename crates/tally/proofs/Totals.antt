@@ -1,0 +1,45 @@
+-- What one answer does to each of the seven totals.
+-- Assumes nothing.
+use mathlib.Core.Logic.{_≢_}
+use mathlib.Core.Option.{some}
+use mathlib.Core.Path.{_≡_, refl}
+use Prim.Native.Nat.{ℕ, _<_}
+use native.Mathlib.Omega.{arith}
+use lib.ListN.{length, getD}
+use lib.Seq.{getD-set-same, getD-set-other}
+use Rattle.rulings.specs.declared.Verdict.{Verdict}
+use Rattle.rulings.specs.declared.Verdict.the-variants.{Uncounted, CreditOfOne, CreditOfTwo, FreshContact, Hygiene, Blocked}
+use Rattle.rulings.specs.declared.answers.Answer.the-variants.{Refused}
+use Rattle.rulings.specs.Answers.{verdictIn}
+use Rattle.rulings.specs.Verdicts.{numberOf}
+use Rattle.tally.specs.declared.Tally.{Tally}
+use Rattle.tally.specs.Tally.{oneMore, tallied}
+
+-- every verdict has a total
+pub has-total : (v : Verdict) → numberOf v < 7
+has-total Uncounted = omega arith
+has-total CreditOfOne = omega arith
+has-total CreditOfTwo = omega arith
+has-total FreshContact = omega arith
+has-total Hygiene = omega arith
+has-total Blocked = omega arith
+
+-- a refusal adds nothing
+pub refusal-adds-nothing : (t : Tally) (n : ℕ) → tallied t (verdictIn (Refused n)) ≡ t
+unfolding tallied
+refusal-adds-nothing t n = refl
+
+-- "stopping at 4,294,967,295"
+pub stops : oneMore 4294967295 ≡ 4294967295
+stops = refl
+
+module _ (t : Tally) (v : ℕ) where
+  -- "one 32-bit total per verdict": a verdict's own is one more
+  pub one-total : length (t .totals) ≡ 7 → v < 7 → getD (tallied t (some v) .totals) v 0 ≡ oneMore (getD (t .totals) v 0)
+  unfolding tallied
+  one-total e h = getD-set-same (t .totals) v _ 0 (omega (arith, e))
+
+  -- every other is as it was
+  pub others-stay : (w : ℕ) → w ≢ v → getD (tallied t (some v) .totals) w 0 ≡ getD (t .totals) w 0
+  unfolding tallied
+  others-stay w ne = getD-set-other (t .totals) v w _ 0 ne

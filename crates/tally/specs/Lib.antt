@@ -1,0 +1,2 @@
+-- What the tally of verdicts says.
+pub mod Tally

@@ -1,0 +1,57 @@
+// The tally of verdicts: by value, and one thin function over a tally that the caller lends.
+ghost use mathlib.Core.Path.{_≡_};
+ghost use mathlib.Core.Option.{some};
+ghost use Prim.Native.Nat.{_<_};
+ghost use Rattle.rulings.specs.Answers.{verdictIn};
+ghost use Rattle.tally.specs.Tally.{emptyTally, oneMore, tallied};
+use rulings::answers::Answer;
+
+// A total for each verdict, 0 to 6, by its number.
+pub struct Tally {
+    pub totals: [u32; 7],
+}
+
+// One more, or the largest total there is.
+fn one_more(total: u32) -> u32
+    ensures { λ r. ⌜ r ≡ oneMore total ⌝ }
+{
+    if total < 4294967295 { total + 1 } else { total }
+}
+
+impl Tally {
+    // Nothing counted yet.
+    pub fn empty() -> Tally
+        ensures { λ r. ⌜ r ≡ emptyTally ⌝ }
+    {
+        Tally { totals: [0; 7] }
+    }
+
+    // The tally with this verdict added, by its number.
+    fn with_verdict(self, number: u8) -> Tally
+        requires { ⌜ number < 7 ⌝ }
+        ensures { λ r. ⌜ r ≡ tallied self (some number) ⌝ }
+    {
+        let at = number as usize;
+        let mut tally = self;
+        tally.totals[at] = one_more(tally.totals[at]);
+        tally
+    }
+
+    // The tally with an answer's verdict added. A refusal has none.
+    pub fn with(self, answer: Answer) -> Tally
+        ensures { λ r. ⌜ r ≡ tallied self (verdictIn answer) ⌝ }
+    {
+        match answer {
+            Answer::Refused(_) => self,
+            Answer::NotOurs => self.with_verdict(0),
+            Answer::Judged { verdict, .. } => self.with_verdict(rulings::number(verdict)),
+        }
+    }
+}
+
+// Adds an answer's verdict to the tally that is lent.
+pub fn add(tally: &mut Tally, answer: Answer)
+    ensures { λ _. ⌜ now (tally .exit) ≡ tallied (now (tally .entry)) (verdictIn answer) ⌝ }
+{
+    *tally = (*tally).with(answer);
+}
