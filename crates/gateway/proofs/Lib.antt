@@ -1,0 +1,2 @@
+-- What is proved of the gateway beyond the contracts.
+pub mod Steps

@@ -1,0 +1,3 @@
+-- What the gateway's calls do.
+pub mod Packets
+pub mod Calls

@@ -1,0 +1,318 @@
+// The gateway: a cold start, a time alone, and a packet. Tables and clock are lent by the caller, and a refused call leaves them alone.
+ghost use mathlib.Core.Bool.{false, _||_};
+ghost use mathlib.Core.Path.{_≡_};
+ghost use Prim.Native.Nat.{_<_, _≤_};
+ghost use lib.ListN.{length};
+ghost use Rattle.settings.specs.Settings.{badSettings};
+ghost use Rattle.packet.specs.Kinds.{portOf};
+ghost use Rattle.sides.specs.Lists.{badList};
+ghost use Rattle.places.specs.Places.{slotOf};
+ghost use Rattle.entries.specs.Entries.{writtenOf};
+ghost use Rattle.tables.specs.Sizes.{badSizes};
+ghost use Rattle.rulings.specs.Rules.{cellOf, plantOf, document01};
+ghost use Rattle.cold.specs.Tables.{tablesOf};
+ghost use Rattle.gateway.specs.Packets.{leftOf, replacementOf, entered, spotOf, rulingAt, settled, ours, directionIn, decided};
+ghost use Rattle.gateway.specs.Calls.{afterOf, stateOf, lowest, started, passed, accepted, judged};
+use entries::Replaced;
+use packet::Header;
+use packet::Reading;
+use places::Place;
+use rulings::Ruling;
+use rulings::answers::Answer;
+use rulings::answers::Replacement;
+use settings::Settings;
+use sides::Direction;
+
+// What a call without a packet answers: the number of its refusal, or that it is done.
+pub enum Reply {
+    Refused(u8),
+    Done,
+}
+
+// The first of the refusals 1 to 4 whose condition holds, or 0.
+fn lowest_of(settings: bool, sizes: bool, lists: bool, time: bool) -> u8
+    ensures { λ r. ⌜ r ≡ lowest settings sizes lists time ⌝ }
+{
+    if settings {
+        return 1;
+    }
+    if sizes {
+        return 2;
+    }
+    if lists {
+        return 3;
+    }
+    if time {
+        return 4;
+    }
+    0
+}
+
+// Starts cold: every record and tag 0, every count -32,768, and the clock at the time.
+pub fn cold_start(
+    set: Settings,
+    records: &mut [u8],
+    tags: &mut [u32],
+    counts: &mut [i16],
+    clock: &mut u32,
+    time: u32,
+) -> Reply
+    ensures { λ r. ⌜ afterOf r (now (records .exit)) (now (tags .exit)) (now (counts .exit)) (now (clock .exit))
+        ≡ started set time (stateOf (now (records .entry)) (now (tags .entry)) (now (counts .entry)) (now (clock .entry))) ⌝ }
+{
+    let bad = tables::sizes::bad_sizes(records.len(), tags.len(), counts.len());
+    let number = lowest_of(set.is_bad(), bad, false, false);
+    if number != 0 {
+        return Reply::Refused(number);
+    }
+    cold::fill(records, tags, counts);
+    *clock = time;
+    Reply::Done
+}
+
+// Passes a time, with no packet.
+pub fn pass(
+    set: Settings,
+    records: &mut [u8],
+    tags: &mut [u32],
+    counts: &mut [i16],
+    clock: &mut u32,
+    time: u32,
+) -> Reply
+    ensures { λ r. ⌜ afterOf r (now (records .exit)) (now (tags .exit)) (now (counts .exit)) (now (clock .exit))
+        ≡ passed (document01 set) set time (stateOf (now (records .entry)) (now (tags .entry)) (now (counts .entry)) (now (clock .entry))) ⌝ }
+{
+    let bad = tables::sizes::bad_sizes(records.len(), tags.len(), counts.len());
+    let number = lowest_of(set.is_bad(), bad, false, time < *clock);
+    if number != 0 {
+        return Reply::Refused(number);
+    }
+    tables::clock::pass(records, counts, clock, time, 1, set.dmiss, set.dconn);
+    Reply::Done
+}
+
+// Where a packet of ours is looked up: its slot, the number of lines, and its cell address's place in them.
+struct Spot {
+    slot: usize,
+    lines: u32,
+    place: Place,
+}
+
+// The two ends of a packet of ours.
+fn cell_of(header: Header, from_plant: bool) -> u32
+    ensures { λ r. ⌜ r ≡ cellOf header «from_plant» ⌝ }
+{
+    if from_plant {
+        header.destination
+    } else {
+        header.source
+    }
+}
+
+fn plant_of(header: Header, from_plant: bool) -> u32
+    ensures { λ r. ⌜ r ≡ plantOf header «from_plant» ⌝ }
+{
+    if from_plant {
+        header.source
+    } else {
+        header.destination
+    }
+}
+
+// The slot of a packet of ours among a number of records.
+fn slot_of(keys: &[u32; 8], header: Header, from_plant: bool, records: u32) -> u32
+    ensures { λ r. ⌜ r ≡ slotOf (now (keys .entry)) (plantOf header «from_plant») (cellOf header «from_plant») (portOf header «from_plant») records ⌝ }
+{
+    let plant = plant_of(header, from_plant);
+    let cell = cell_of(header, from_plant);
+    places::slot(keys, plant, cell, header.port(from_plant) as u32, records)
+}
+
+// Where a packet of ours is looked up in tables of these lengths.
+fn spot_of(set: Settings, header: Header, from_plant: bool, records: usize, tags: usize) -> Spot
+    requires { ⌜ (records ≤ 1048576) × (tags ≤ 1048576) ⌝ }
+    ensures { λ r. ⌜ r ≡ spotOf (document01 set) (set .keys) header «from_plant» records tags ⌝ }
+{
+    let lines = (tags / 4) as u32;
+    Spot {
+        slot: slot_of(&set.keys, header, from_plant, records as u32) as usize,
+        lines,
+        place: places::place_of(&set.keys, cell_of(header, from_plant), lines),
+    }
+}
+
+// The ruling on a packet of ours, by the record and the count where it is looked up.
+fn ruling_at(
+    set: Settings,
+    header: Header,
+    from_plant: bool,
+    spot: Spot,
+    records: &[u8],
+    tags: &[u32],
+    counts: &[i16],
+) -> Ruling
+    requires { ⌜ spot .slot < length (now records) ⌝ }
+    ensures { λ r. ⌜ r ≡ rulingAt (document01 set) header «from_plant» spot (tablesOf (now (records .entry)) (now (tags .entry)) (now (counts .entry))) ⌝ }
+{
+    let slot = spot.slot;
+    let count = entries::count_of(tags, counts, spot.place.line, spot.place.tag);
+    rulings::ruling_of(set, header, from_plant, records[slot], count)
+}
+
+// Writes the cell address's entry where the ruling says so.
+fn enter(tags: &mut [u32], counts: &mut [i16], place: Place, ruling: Ruling) -> Replaced
+    ensures { λ r. ⌜ writtenOf r (now (tags .exit)) (now (counts .exit)) ≡ entered place ruling (now (tags .entry)) (now (counts .entry)) ⌝ }
+{
+    if ruling.writes {
+        return entries::write(tags, counts, place.line, place.tag, ruling.count);
+    }
+    Replaced::Nothing
+}
+
+// The address whose entry a write replaced, from its line and tag.
+fn replacement_of(keys: &[u32; 8], lines: u32, line: u32, replaced: Replaced) -> Replacement
+    ensures { λ r. ⌜ r ≡ replacementOf (now (keys .entry)) lines line replaced ⌝ }
+{
+    match replaced {
+        Replaced::Nothing => Replacement::None,
+        Replaced::Tag(tag) => Replacement::Address(places::address_of(
+            keys,
+            Place { line, tag },
+            lines,
+        )),
+    }
+}
+
+// Writes what a ruling makes of the tables, and answers it.
+fn settle(
+    set: Settings,
+    spot: Spot,
+    ruling: Ruling,
+    records: &mut [u8],
+    tags: &mut [u32],
+    counts: &mut [i16],
+) -> Answer
+    requires { ⌜ spot .slot < length (now records) ⌝ }
+    ensures { λ r. ⌜ leftOf r (now (records .exit)) (now (tags .exit)) (now (counts .exit))
+        ≡ settled (set .keys) spot ruling (tablesOf (now (records .entry)) (now (tags .entry)) (now (counts .entry))) ⌝ }
+{
+    let slot = spot.slot;
+    let verdict = ruling.verdict;
+    records[slot] = ruling.byte;
+    let replaced = enter(tags, counts, spot.place, ruling);
+    Answer::Judged {
+        verdict,
+        count: ruling.count,
+        replaced: replacement_of(&set.keys, spot.lines, spot.place.line, replaced),
+    }
+}
+
+// Judges a packet of ours.
+fn judge_ours(
+    set: Settings,
+    header: Header,
+    from_plant: bool,
+    records: &mut [u8],
+    tags: &mut [u32],
+    counts: &mut [i16],
+) -> Answer
+    requires { ⌜ badSizes (length (now records)) (length (now tags)) (length (now counts)) ≡ false ⌝ }
+    ensures { λ r. ⌜ leftOf r (now (records .exit)) (now (tags .exit)) (now (counts .exit))
+        ≡ ours (document01 set) set header «from_plant» (tablesOf (now (records .entry)) (now (tags .entry)) (now (counts .entry))) ⌝ }
+{
+    let spot = spot_of(set, header, from_plant, records.len(), tags.len());
+    let ruling = ruling_at(set, header, from_plant, spot, records, tags, counts);
+    settle(set, spot, ruling, records, tags, counts)
+}
+
+// The direction of a packet, by both side lists.
+fn direction_in(cell: &[u8], plant: &[u8], header: Header) -> Direction
+    ensures { λ r. ⌜ r ≡ directionIn (now (cell .entry)) (now (plant .entry)) header ⌝ }
+{
+    let source = sides::side_of(cell, plant, header.source);
+    let destination = sides::side_of(cell, plant, header.destination);
+    sides::direction_of(source, destination)
+}
+
+// Judges a packet by its direction. One that is not ours touches no table.
+fn decide(
+    set: Settings,
+    header: Header,
+    direction: Direction,
+    records: &mut [u8],
+    tags: &mut [u32],
+    counts: &mut [i16],
+) -> Answer
+    requires { ⌜ badSizes (length (now records)) (length (now tags)) (length (now counts)) ≡ false ⌝ }
+    ensures { λ r. ⌜ leftOf r (now (records .exit)) (now (tags .exit)) (now (counts .exit))
+        ≡ decided (document01 set) set header direction (tablesOf (now (records .entry)) (now (tags .entry)) (now (counts .entry))) ⌝ }
+{
+    match direction {
+        Direction::FromCell => judge_ours(set, header, false, records, tags, counts),
+        Direction::FromPlant => judge_ours(set, header, true, records, tags, counts),
+        Direction::NotOurs => Answer::NotOurs,
+    }
+}
+
+// Passes the time, and then judges a packet whose headers are read.
+fn accept(
+    set: Settings,
+    header: Header,
+    direction: Direction,
+    records: &mut [u8],
+    tags: &mut [u32],
+    counts: &mut [i16],
+    clock: &mut u32,
+    time: u32,
+) -> Answer
+    requires { ⌜ badSizes (length (now records)) (length (now tags)) (length (now counts)) ≡ false ⌝ }
+    ensures { λ r. ⌜ afterOf r (now (records .exit)) (now (tags .exit)) (now (counts .exit)) (now (clock .exit))
+        ≡ accepted (document01 set) set header direction time (stateOf (now (records .entry)) (now (tags .entry)) (now (counts .entry)) (now (clock .entry))) ⌝ }
+{
+    tables::clock::pass(records, counts, clock, time, 1, set.dmiss, set.dconn);
+    decide(set, header, direction, records, tags, counts)
+}
+
+// The refusal of a packet before its headers are looked at, or 0.
+fn refusal_before_headers(
+    set: Settings,
+    cell: &[u8],
+    plant: &[u8],
+    bad_tables: bool,
+    too_early: bool,
+) -> u8
+    ensures { λ r. ⌜ r ≡ lowest (badSettings set) «bad_tables» (badList (now (cell .entry)) || badList (now (plant .entry))) «too_early» ⌝ }
+{
+    let lists = sides::bad_list(cell) | sides::bad_list(plant);
+    lowest_of(set.is_bad(), bad_tables, lists, too_early)
+}
+
+// Judges a packet at a time.
+pub fn judge(
+    set: Settings,
+    cell: &[u8],
+    plant: &[u8],
+    records: &mut [u8],
+    tags: &mut [u32],
+    counts: &mut [i16],
+    clock: &mut u32,
+    time: u32,
+    packet: &[u8],
+) -> Answer
+    ensures { λ r. ⌜ afterOf r (now (records .exit)) (now (tags .exit)) (now (counts .exit)) (now (clock .exit))
+        ≡ judged (document01 set) set (now (cell .entry)) (now (plant .entry)) time (now (packet .entry))
+        (stateOf (now (records .entry)) (now (tags .entry)) (now (counts .entry)) (now (clock .entry))) ⌝ }
+{
+    let bad_tables = tables::sizes::bad_sizes(records.len(), tags.len(), counts.len());
+    let number = refusal_before_headers(set, cell, plant, bad_tables, time < *clock);
+    if number != 0 {
+        return Answer::Refused(number);
+    }
+    match packet::read(packet) {
+        Reading::Refused(number) => Answer::Refused(number),
+        Reading::Packet(header) => {
+            let direction = direction_in(cell, plant, header);
+            accept(set, header, direction, records, tags, counts, clock, time)
+        }
+    }
+}
