@@ -1,2 +1,2 @@
 -- What a cold start writes.
-pub mod Tables
+pub mod Cold

@@ -2,7 +2,8 @@
 ghost use mathlib.Core.Path.{_≡_};
 ghost use lib.ListN.{length, replicate};
 ghost use Rattle.laws.specs.Signed.{minus};
-ghost use Rattle.cold.specs.Tables.{tablesOf, coldTables};
+ghost use Rattle.tables.specs.Tables.{tablesOf};
+ghost use Rattle.cold.specs.Cold.{coldTables};
 
 // Makes every record one without a mark.
 fn clear_records(records: &mut [u8])
@@ -40,7 +41,7 @@ fn empty_counts(counts: &mut [i16])
 // Fills all tables as a cold start does, whatever they held.
 pub fn fill(records: &mut [u8], tags: &mut [u32], counts: &mut [i16])
     ensures { λ _. ⌜ tablesOf (now (records .exit)) (now (tags .exit)) (now (counts .exit))
-        ≡ coldTables (length (now (records .entry))) (length (now (tags .entry))) (length (now (counts .entry))) ⌝ }
+        ≡ coldTables (tablesOf (now (records .entry)) (now (tags .entry)) (now (counts .entry))) ⌝ }
 {
     clear_records(records);
     clear_tags(tags);

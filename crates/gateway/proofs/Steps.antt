@@ -1,7 +1,7 @@
 -- The calls' steps, one after the other, come to what the definitions say.
 -- Assumes nothing.
 use mathlib.Core.Bool.{Bool, true, false, _||_}
-use mathlib.Core.List.{List}
+use mathlib.Core.List.{List, [], _∷_}
 use mathlib.Core.Path.{_≡_, refl, sym, ap, _∙_}
 use Prim.Native.Nat.{ℕ, zero, suc, _^_, _<_, _≤_}
 use native.Mathlib.Omega.{arith}
@@ -29,18 +29,22 @@ use Rattle.rulings.specs.declared.answers.Replacement.{Replacement}
 use Rattle.rulings.specs.declared.answers.Answer.{Answer}
 use Rattle.rulings.specs.declared.answers.Answer.the-variants.{Refused, Judged}
 use Rattle.rulings.specs.Rules.{Rules, document01}
-use Rattle.cold.specs.Tables.{Tables, tablesOf}
+use Rattle.tables.specs.Tables.{Tables, tablesOf}
 use Rattle.gateway.specs.declared.Spot.{Spot}
-use Rattle.gateway.specs.Packets.{Left, leftOf, replacementOf, entered, spotOf, rulingAt, settled, ours, directionIn, decided}
-use Rattle.gateway.specs.Calls.{State, After, lowest, badTables, orElse, unlessRefused, accepted, judged}
+use Rattle.gateway.specs.Packets.{Outcome, outcomeOf, replacementOf, entered, spotOf, rulingAt, settled, ours, directionIn, byDirection}
+use Rattle.gateway.specs.Calls.{State, After, firstRefusal, badTables, orElse, unlessRefused, packetRefusal, accepted, judged}
 
 -- ---- refusals
+-- the first of the numbers 1 to 4
+abbrev pub four : Bool → Bool → Bool → Bool → ℕ
+four a b c d = firstRefusal ((1, a) ∷ (2, b) ∷ (3, c) ∷ (4, d) ∷ [])
+
 -- the number by the tests of settings and sizes that the code made
-pub number-is : (lists time : Bool) {a b a′ b′ : Bool} {n : ℕ} → n ≡ lowest a b lists time → a ≡ a′ → b ≡ b′ → n ≡ lowest a′ b′ lists time
-number-is lists time e p q = e ∙ (λ i. lowest (p i) (q i) lists time)
+pub number-is : (lists time : Bool) {a b a′ b′ : Bool} {n : ℕ} → n ≡ four a b lists time → a ≡ a′ → b ≡ b′ → n ≡ four a′ b′ lists time
+number-is lists time e p q = e ∙ (λ i. four (p i) (q i) lists time)
 
 -- where it is 0 every test was false
-pub each-passed : (a b c d : Bool) → lowest a b c d ≡ 0 → (a ≡ false) × (b ≡ false) × (c ≡ false) × (d ≡ false)
+pub each-passed : (a b c d : Bool) → four a b c d ≡ 0 → (a ≡ false) × (b ≡ false) × (c ≡ false) × (d ≡ false)
 each-passed true b c d e = absurd (omega arith)
 each-passed false true c d e = absurd (omega arith)
 each-passed false false true d e = absurd (omega arith)
@@ -62,30 +66,30 @@ module _ {A : Type 0} (refused : ℕ → A) (before : State) (after : After A) w
 pub settled-as : (keys : List ℕ) (spot : Spot) (ruling : Ruling) (records tags : List ℕ) (counts : List ℤ) {replaced : Replaced} {replacement : Replacement} {tags′ : List ℕ} {counts′ : List ℤ}
     → writtenOf replaced tags′ counts′ ≡ entered (spot .place) ruling tags counts
     → replacement ≡ replacementOf keys (spot .lines) (spot .place .line) replaced
-    → leftOf (Judged (ruling .verdict) (ruling .count) replacement) (set records (spot .slot) (ruling .byte)) tags′ counts′
+    → outcomeOf (Judged (ruling .verdict) (ruling .count) replacement) (set records (spot .slot) (ruling .byte)) tags′ counts′
     ≡ settled keys spot ruling (tablesOf records tags counts)
 settled-as keys spot ruling records tags counts {replaced} {replacement} {tags′} {counts′} w e =
-    ap (λ (a : Replacement). leftOf (Judged (ruling .verdict) (ruling .count) a) (set records (spot .slot) (ruling .byte)) tags′ counts′) e
-    ∙ ap (λ (x : Written). leftOf (Judged (ruling .verdict) (ruling .count) (replacementOf keys (spot .lines) (spot .place .line) (x .replaced))) (set records (spot .slot) (ruling .byte)) (x .tags) (x .counts)) w
+    ap (λ (a : Replacement). outcomeOf (Judged (ruling .verdict) (ruling .count) a) (set records (spot .slot) (ruling .byte)) tags′ counts′) e
+    ∙ ap (λ (x : Written). outcomeOf (Judged (ruling .verdict) (ruling .count) (replacementOf keys (spot .lines) (spot .place .line) (x .replaced))) (set records (spot .slot) (ruling .byte)) (x .tags) (x .counts)) w
 
-pub ours-as : (rules : Rules) (settings : Settings) (h : Header) (fromPlant : Bool) (before : Tables) {spot : Spot} {ruling : Ruling} {left : Left}
-    → spot ≡ spotOf rules (settings .keys) h fromPlant (length (before .records)) (length (before .tags))
-    → ruling ≡ rulingAt rules h fromPlant spot before → left ≡ settled (settings .keys) spot ruling before
+pub ours-as : (rules : Settings → Rules) (settings : Settings) (h : Header) (fromPlant : Bool) (before : Tables) {spot : Spot} {ruling : Ruling} {left : Outcome}
+    → spot ≡ spotOf (rules settings) (settings .keys) h fromPlant (length (before .records)) (length (before .tags))
+    → ruling ≡ rulingAt (rules settings) h fromPlant spot before → left ≡ settled (settings .keys) spot ruling before
     → left ≡ ours rules settings h fromPlant before
 unfolding ours
 ours-as rules settings h fromPlant before {spot} {ruling} p q e =
     e ∙ ap (λ (r : Ruling). settled (settings .keys) spot r before) q
-    ∙ ap (λ (s : Spot). settled (settings .keys) s (rulingAt rules h fromPlant s before) before) p
+    ∙ ap (λ (s : Spot). settled (settings .keys) s (rulingAt (rules settings) h fromPlant s before) before) p
 
-pub accepted-as : (rules : Rules) (settings : Settings) (h : Header) (direction : Direction) (time : ℕ) (before : State) {timed : Timed} {left : Left}
-    → timed ≡ timePassed (rules .point) (settings .dmiss) (settings .dconn) time (timedOf (before .tables .records) (before .tables .counts) (before .clock))
-    → left ≡ decided rules settings h direction (tablesOf (timed .records) (before .tables .tags) (timed .counts))
+pub accepted-as : (rules : Settings → Rules) (settings : Settings) (h : Header) (direction : Direction) (time : ℕ) (before : State) {timed : Timed} {left : Outcome}
+    → timed ≡ timePassed (rules settings .point) (settings .dmiss) (settings .dconn) time (timedOf (before .tables .records) (before .tables .counts) (before .clock))
+    → left ≡ byDirection rules settings h direction (tablesOf (timed .records) (before .tables .tags) (timed .counts))
     → record { answer = left .answer; state = record { tables = left .tables; clock = timed .clock } } ≡ accepted rules settings h direction time before
 accepted-as rules settings h direction time before {timed} {left} t e =
-    ap (λ (l : Left). record { answer = l .answer; state = record { tables = l .tables; clock = timed .clock } }) e
-    ∙ ap (λ (x : Timed). went (decided rules settings h direction (tablesOf (x .records) (before .tables .tags) (x .counts))) (x .clock)) t
+    ap (λ (l : Outcome). record { answer = l .answer; state = record { tables = l .tables; clock = timed .clock } }) e
+    ∙ ap (λ (x : Timed). went (byDirection rules settings h direction (tablesOf (x .records) (before .tables .tags) (x .counts))) (x .clock)) t
   where
-    went : Left → ℕ → After Answer
+    went : Outcome → ℕ → After Answer
     went l clock = record { answer = l .answer; state = record { tables = l .tables; clock = clock } }
 
 -- ---- sizes
@@ -132,20 +136,20 @@ first-of-two : (first k : ℕ) {n : ℕ} → n ≡ first → (n ≡ 0 → ⊥) �
 first-of-two zero k e ne = absurd (ne e)
 first-of-two (suc m) k e ne = e
 
-module _ (rules : Rules) (settings : Settings) (cell plant : List ℕ) (time : ℕ) (bytes : List ℕ) (before : State) where
+module _ (rules : Settings → Rules) (settings : Settings) (cell plant : List ℕ) (time : ℕ) (bytes : List ℕ) (before : State) where
   abbrev first : ℕ
-  first = lowest (badSettings settings) (badTables (before .tables)) (badList cell || badList plant) (ltb time (before .clock))
+  first = four (badSettings settings) (badTables (before .tables)) (badList cell || badList plant) (ltb time (before .clock))
 
   abbrev after : After Answer
   after = accepted rules settings (headerOf bytes) (directionIn cell plant (headerOf bytes)) time before
 
   pub refused-first : {n : ℕ} → n ≡ first → (n ≡ 0 → ⊥) → record { answer = Refused n; state = before } ≡ judged rules settings cell plant time bytes before
-  unfolding judged
+  unfolding judged packetRefusal
   refused-first e ne = refused-by Refused before after _ (first-of-two first (headerRefusal bytes) e ne) ne
 
   pub refused-reading : {n : ℕ} {reading : Reading} → first ≡ 0 → reading ≡ readOf bytes → reading ≡ Unread n
       → record { answer = Refused n; state = before } ≡ judged rules settings cell plant time bytes before
-  unfolding judged readOf
+  unfolding judged packetRefusal readOf
   refused-reading {n} z r e =
       let u = unread (headerRefusal bytes) (headerOf bytes) n (sym r ∙ e) in
       refused-by Refused before after _ (or-else first z (u .0)) (u .1)
@@ -153,7 +157,7 @@ module _ (rules : Rules) (settings : Settings) (cell plant : List ℕ) (time : �
   pub judged-as : {h : Header} {reading : Reading} {direction : Direction} {left : After Answer} → first ≡ 0 → reading ≡ readOf bytes → reading ≡ Packet h
       → direction ≡ directionIn cell plant h → left ≡ accepted rules settings h direction time before
       → left ≡ judged rules settings cell plant time bytes before
-  unfolding judged readOf
+  unfolding judged packetRefusal readOf
   judged-as {h} z r e d l =
       let u = was-read (headerRefusal bytes) (headerOf bytes) h (sym r ∙ e) in
       l ∙ ap (λ (x : Direction). accepted rules settings h x time before) d

@@ -1,7 +1,7 @@
 -- Document 01, "Refusal numbers" as the calls give them, and the three calls: a cold start, a time alone, a packet.
 -- Assumes nothing.
-use mathlib.Core.Bool.{Bool, false, _||_, cond}
-use mathlib.Core.List.{List}
+use mathlib.Core.Bool.{Bool, _||_, cond}
+use mathlib.Core.List.{List, [], _∷_}
 use Prim.Native.Nat.{ℕ, zero, suc}
 use lib.Dec.{ltb}
 use lib.IntN.{ℤ}
@@ -12,15 +12,16 @@ use Rattle.sides.specs.declared.Direction.{Direction}
 use Rattle.sides.specs.Lists.{badList}
 use Rattle.packet.specs.declared.Header.{Header}
 use Rattle.packet.specs.Header.{headerRefusal, headerOf}
+use Rattle.tables.specs.Tables.{Tables, tablesOf}
 use Rattle.tables.specs.Sizes.{badSizes}
 use Rattle.tables.specs.Clock.{Timed, timedOf, timePassed}
 use Rattle.rulings.specs.declared.answers.Answer.{Answer}
-use Rattle.rulings.specs.declared.answers.Answer.the-variants.{Refused}
+use Rattle.rulings.specs.declared.answers.Answer.the-variants as answer
 use Rattle.rulings.specs.Rules.{Rules}
-use Rattle.cold.specs.Tables.{Tables, tablesOf, coldTables}
+use Rattle.cold.specs.Cold.{coldTables}
 use Rattle.gateway.specs.declared.Reply.{Reply}
-use Rattle.gateway.specs.declared.Reply.the-variants.{Refused as RefusedBy, Done}
-use Rattle.gateway.specs.Packets.{Left, directionIn, decided}
+use Rattle.gateway.specs.declared.Reply.the-variants.{Refused, Done}
+use Rattle.gateway.specs.Packets.{Outcome, directionIn, byDirection}
 
 -- a gateway's state: its tables and its clock
 pub record State : Type 0 where
@@ -39,74 +40,85 @@ abbrev pub afterOf : {A : Type 0} → A → List ℕ → List ℕ → List ℤ �
 afterOf answer records tags counts clock = record { answer = answer; state = stateOf records tags counts clock }
 
 -- ---- refusals
--- "A call tests in rising number the conditions for which it has an input": the first of the numbers 1 to 4 whose condition holds, or 0
-abbrev pub lowest : Bool → Bool → Bool → Bool → ℕ
-lowest settings sizes lists time = cond settings 1 (cond sizes 2 (cond lists 3 (cond time 4 0)))
+-- A call's tests in their order, each a refusal's number and whether its condition holds: the number of the first that holds, or 0.
+abbrev pub firstRefusal : List (ℕ × Bool) → ℕ
+firstRefusal [] = 0
+firstRefusal (test ∷ tests) = cond (test .1) (test .0) (firstRefusal tests)
 
-abbrev pub badTables : Tables → Bool
-badTables tables = badSizes (length (tables .records)) (length (tables .tags)) (length (tables .counts))
-
--- a number, or where it is 0 another's
+-- a number, or where it is 0 another
 abbrev pub orElse : ℕ → ℕ → ℕ
 orElse zero other = other
 orElse (suc n) other = suc n
 
--- "The answer of a refusal is its number alone. All caller memory keeps its contents."
+abbrev pub badTables : Tables → Bool
+badTables tables = badSizes (length (tables .records)) (length (tables .tags)) (length (tables .counts))
+
+-- "All caller memory keeps its contents."
 abbrev pub unlessRefused : {A : Type 0} → (ℕ → A) → ℕ → State → After A → After A
 unlessRefused refused zero before after = after
 unlessRefused refused (suc n) before after = record { answer = refused (suc n); state = before }
 
--- ---- a cold start
--- "A cold start takes settings, tables and a time; it writes 0 to every record and tag and -32,768 to every count, sets the clock"
-abbrev pub coldState : State → ℕ → State
-coldState before time =
-    record {
-      tables = coldTables (length (before .tables .records)) (length (before .tables .tags)) (length (before .tables .counts));
-      clock = time;
-    }
+-- the number of a reply's refusal, and 0 where the call is done
+abbrev pub refusalIn : Reply → ℕ
+refusalIn (Refused number) = number
+refusalIn Done = 0
 
--- "and is refused only by 1 and 2"
+-- "A call tests in rising number the conditions for which it has an input"
+-- ---- a cold start: "is refused only by 1 and 2"
+unfoldable pub startRefusal : Settings → State → ℕ
+startRefusal settings before = firstRefusal ((1, badSettings settings) ∷ (2, badTables (before .tables)) ∷ [])
+
+-- it "sets the clock"
+abbrev pub coldState : ℕ → State → State
+coldState time before = record { tables = coldTables (before .tables); clock = time }
+
 unfoldable pub started : Settings → ℕ → State → After Reply
 started settings time before =
-    unlessRefused RefusedBy (lowest (badSettings settings) (badTables (before .tables)) false false) before
-    (record { answer = Done; state = coldState before time })
+    unlessRefused Refused (startRefusal settings before) before (record { answer = Done; state = coldState time before })
 
 -- ---- a time alone
--- the state at a new time: what the clock does to records and counts. It leaves the tags.
-abbrev pub onward : Rules → Settings → ℕ → State → State
-onward rules settings time before = stateOf (timed .records) (before .tables .tags) (timed .counts) (timed .clock)
+-- 4: "the time is before the gateway's clock"
+unfoldable pub timeRefusal : Settings → ℕ → State → ℕ
+timeRefusal settings time before =
+    firstRefusal ((1, badSettings settings) ∷ (2, badTables (before .tables)) ∷ (4, ltb time (before .clock)) ∷ [])
+
+-- the state at a new time, by the size of a point: what the clock does to records and counts. It leaves the tags.
+abbrev pub onward : ℕ → Settings → ℕ → State → State
+onward point settings time before = stateOf (timed .records) (before .tables .tags) (timed .counts) (timed .clock)
   where
     timed : Timed
     timed =
-        timePassed (rules .point) (settings .dmiss) (settings .dconn) time
-        (timedOf (before .tables .records) (before .tables .counts) (before .clock))
+        timePassed point (settings .dmiss) (settings .dconn) time (timedOf (before .tables .records) (before .tables .counts) (before .clock))
 
--- refusal 4: "the time is before the gateway's clock"
-unfoldable pub passed : Rules → Settings → ℕ → State → After Reply
+unfoldable pub passed : (Settings → Rules) → Settings → ℕ → State → After Reply
 passed rules settings time before =
-    unlessRefused RefusedBy (lowest (badSettings settings) (badTables (before .tables)) false (ltb time (before .clock))) before
-    (record { answer = Done; state = onward rules settings time before })
+    unlessRefused Refused (timeRefusal settings time before) before
+    (record { answer = Done; state = onward (rules settings .point) settings time before })
 
 -- ---- a packet
--- "but header tests have their own order", after 1 to 4
-abbrev pub packetRefusal : Settings → List ℕ → List ℕ → ℕ → List ℕ → State → ℕ
+-- "but header tests have their own order"
+unfoldable pub packetRefusal : Settings → List ℕ → List ℕ → ℕ → List ℕ → State → ℕ
 packetRefusal settings cell plant time bytes before =
     orElse
-    (lowest (badSettings settings) (badTables (before .tables)) (badList cell || badList plant) (ltb time (before .clock)))
+    (firstRefusal
+    ((1, badSettings settings) ∷
+    (2, badTables (before .tables)) ∷
+    (3, badList cell || badList plant) ∷
+    (4, ltb time (before .clock)) ∷ []))
     (headerRefusal bytes)
 
 -- "Clock, before every packet that isn't refused, ours or not": then what the packet, by its headers and direction, makes of the tables
-abbrev pub accepted : Rules → Settings → Header → Direction → ℕ → State → After Answer
+abbrev pub accepted : (Settings → Rules) → Settings → Header → Direction → ℕ → State → After Answer
 accepted rules settings h direction time before =
-    record { answer = left .answer; state = record { tables = left .tables; clock = later .clock } }
+    record { answer = outcome .answer; state = record { tables = outcome .tables; clock = timed .clock } }
   where
-    later : State
-    later = onward rules settings time before
+    timed : State
+    timed = onward (rules settings .point) settings time before
 
-    left : Left
-    left = decided rules settings h direction (later .tables)
+    outcome : Outcome
+    outcome = byDirection rules settings h direction (timed .tables)
 
-unfoldable pub judged : Rules → Settings → List ℕ → List ℕ → ℕ → List ℕ → State → After Answer
+unfoldable pub judged : (Settings → Rules) → Settings → List ℕ → List ℕ → ℕ → List ℕ → State → After Answer
 judged rules settings cell plant time bytes before =
-    unlessRefused Refused (packetRefusal settings cell plant time bytes before) before
+    unlessRefused answer.Refused (packetRefusal settings cell plant time bytes before) before
     (accepted rules settings (headerOf bytes) (directionIn cell plant (headerOf bytes)) time before)

@@ -15,28 +15,40 @@ use Rattle.places.specs.Places.{placeOf, addressOf}
 use Rattle.entries.specs.declared.Replaced.{Replaced}
 use Rattle.entries.specs.declared.Replaced.the-variants.{Nothing, Tag}
 use Rattle.entries.specs.Entries.{countOf, Written, writtenOf, written}
+use Rattle.tables.specs.Tables.{Tables, tablesOf}
 use Rattle.rulings.specs.declared.Ruling.{Ruling}
 use Rattle.rulings.specs.declared.answers.Replacement.{Replacement}
 use Rattle.rulings.specs.declared.answers.Replacement.the-variants.{None, Address}
 use Rattle.rulings.specs.declared.answers.Answer.{Answer}
-use Rattle.rulings.specs.declared.answers.Answer.the-variants.{NotOurs as Elsewhere, Judged}
+use Rattle.rulings.specs.declared.answers.Answer.the-variants as answer
 use Rattle.rulings.specs.Rules.{Rules, cellOf}
 use Rattle.rulings.specs.Rulings.{rulingOf}
-use Rattle.cold.specs.Tables.{Tables, tablesOf}
 use Rattle.gateway.specs.declared.Spot.{Spot}
 
 -- what a packet leaves: the answer, and the tables
-pub record Left : Type 0 where
+pub record Outcome : Type 0 where
   pub answer : Answer
   pub tables : Tables
 
-abbrev pub leftOf : Answer → List ℕ → List ℕ → List ℤ → Left
-leftOf answer records tags counts = record { answer = answer; tables = tablesOf records tags counts }
+abbrev pub outcomeOf : Answer → List ℕ → List ℕ → List ℤ → Outcome
+outcomeOf answer records tags counts = record { answer = answer; tables = tablesOf records tags counts }
 
--- "the replaced address, if any, recovered by the inverse from line and tag": by the keys, the number of lines and the line
-abbrev pub replacementOf : List ℕ → ℕ → ℕ → Replaced → Replacement
-replacementOf keys lines line Nothing = None
-replacementOf keys lines line (Tag tag) = Address (addressOf keys (record { line = line; tag = tag }) lines)
+-- ---- a packet of ours, from the plant or from the cell
+-- where it is looked up: its slot among so many records, and its cell address's place among the lines of so many tags, "four entries
+-- each"
+abbrev pub spotOf : Rules → List ℕ → Header → Bool → ℕ → ℕ → Spot
+spotOf rules keys h fromPlant records tags =
+    record { slot = rules .slot keys h fromPlant records; lines = tags / 4; place = placeOf keys (cellOf h fromPlant) (tags / 4) }
+
+-- what it meets there: a record, and its cell address's count
+abbrev pub recordMet : Spot → Tables → ℕ
+recordMet spot tables = getD (tables .records) (spot .slot) 0
+
+abbrev pub countMet : Spot → Tables → ℤ
+countMet spot tables = countOf (spot .place .line) (spot .place .tag) (tables .tags) (tables .counts)
+
+abbrev pub rulingAt : Rules → Header → Bool → Spot → Tables → Ruling
+rulingAt rules h fromPlant spot before = rulingOf rules h fromPlant (recordMet spot before) (countMet spot before)
 
 -- "Only these write an entry": the lists after a ruling, and what that replaced
 abbrev pub entered : Place → Ruling → List ℕ → List ℤ → Written
@@ -45,25 +57,16 @@ entered place ruling tags counts =
     (written (place .line) (place .tag) (ruling .count) tags counts)
     (writtenOf Nothing tags counts)
 
--- ---- a packet of ours
--- where it is looked up: its slot among so many records, and its cell address's place among the lines of so many tags, "four entries
--- each"
-abbrev pub spotOf : Rules → List ℕ → Header → Bool → ℕ → ℕ → Spot
-spotOf rules keys h fromPlant records tags =
-    record { slot = rules .slot h fromPlant records; lines = tags / 4; place = placeOf keys (cellOf h fromPlant) (tags / 4) }
-
--- all that follows from the record at its slot and from its cell address's count
-abbrev pub rulingAt : Rules → Header → Bool → Spot → Tables → Ruling
-rulingAt rules h fromPlant spot before =
-    rulingOf rules h fromPlant
-    (getD (before .records) (spot .slot) 0)
-    (countOf (spot .place .line) (spot .place .tag) (before .tags) (before .counts))
+-- "the replaced address, if any, recovered by the inverse from line and tag": by the keys, the number of lines and the line
+abbrev pub replacementOf : List ℕ → ℕ → ℕ → Replaced → Replacement
+replacementOf keys lines line Nothing = None
+replacementOf keys lines line (Tag tag) = Address (addressOf keys (record { line = line; tag = tag }) lines)
 
 -- what the ruling makes of the tables. "The answer holds the verdict, the address's count after it, and the replaced address, if any"
-abbrev pub settled : List ℕ → Spot → Ruling → Tables → Left
+abbrev pub settled : List ℕ → Spot → Ruling → Tables → Outcome
 settled keys spot ruling before =
-    leftOf
-    (Judged (ruling .verdict) (ruling .count) (replacementOf keys (spot .lines) (spot .place .line) (after .replaced)))
+    outcomeOf
+    (answer.Judged (ruling .verdict) (ruling .count) (replacementOf keys (spot .lines) (spot .place .line) (after .replaced)))
     (set (before .records) (spot .slot) (ruling .byte))
     (after .tags)
     (after .counts)
@@ -71,18 +74,18 @@ settled keys spot ruling before =
     after : Written
     after = entered (spot .place) ruling (before .tags) (before .counts)
 
-unfoldable pub ours : Rules → Settings → Header → Bool → Tables → Left
-ours rules settings h fromPlant before = settled (settings .keys) spot (rulingAt rules h fromPlant spot before) before
+unfoldable pub ours : (Settings → Rules) → Settings → Header → Bool → Tables → Outcome
+ours rules settings h fromPlant before = settled (settings .keys) spot (rulingAt (rules settings) h fromPlant spot before) before
   where
     spot : Spot
-    spot = spotOf rules (settings .keys) h fromPlant (length (before .records)) (length (before .tags))
+    spot = spotOf (rules settings) (settings .keys) h fromPlant (length (before .records)) (length (before .tags))
 
 -- ---- any packet, by both side lists
 abbrev pub directionIn : List ℕ → List ℕ → Header → Direction
 directionIn cell plant h = directionOf (sideOf cell plant (h .source)) (sideOf cell plant (h .destination))
 
 -- "0 not ours": it touches no table
-unfoldable pub decided : Rules → Settings → Header → Direction → Tables → Left
-decided rules settings h FromCell before = ours rules settings h false before
-decided rules settings h FromPlant before = ours rules settings h true before
-decided rules settings h NotOurs before = record { answer = Elsewhere; tables = before }
+unfoldable pub byDirection : (Settings → Rules) → Settings → Header → Direction → Tables → Outcome
+byDirection rules settings h FromCell before = ours rules settings h false before
+byDirection rules settings h FromPlant before = ours rules settings h true before
+byDirection rules settings h NotOurs before = record { answer = answer.NotOurs; tables = before }

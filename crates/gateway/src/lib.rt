@@ -1,5 +1,6 @@
 // The gateway: a cold start, a time alone, and a packet. Tables and clock are lent by the caller, and a refused call leaves them alone.
 ghost use mathlib.Core.Bool.{false, _||_};
+ghost use mathlib.Core.List.{[], _∷_};
 ghost use mathlib.Core.Path.{_≡_};
 ghost use Prim.Native.Nat.{_<_, _≤_};
 ghost use lib.ListN.{length};
@@ -10,9 +11,9 @@ ghost use Rattle.places.specs.Places.{slotOf};
 ghost use Rattle.entries.specs.Entries.{writtenOf};
 ghost use Rattle.tables.specs.Sizes.{badSizes};
 ghost use Rattle.rulings.specs.Rules.{cellOf, plantOf, document01};
-ghost use Rattle.cold.specs.Tables.{tablesOf};
-ghost use Rattle.gateway.specs.Packets.{leftOf, replacementOf, entered, spotOf, rulingAt, settled, ours, directionIn, decided};
-ghost use Rattle.gateway.specs.Calls.{afterOf, stateOf, lowest, started, passed, accepted, judged};
+ghost use Rattle.tables.specs.Tables.{tablesOf};
+ghost use Rattle.gateway.specs.Packets.{outcomeOf, replacementOf, entered, spotOf, rulingAt, settled, ours, directionIn, byDirection};
+ghost use Rattle.gateway.specs.Calls.{afterOf, stateOf, firstRefusal, started, passed, accepted, judged};
 use entries::Replaced;
 use packet::Header;
 use packet::Reading;
@@ -30,19 +31,19 @@ pub enum Reply {
 }
 
 // The first of the refusals 1 to 4 whose condition holds, or 0.
-fn lowest_of(settings: bool, sizes: bool, lists: bool, time: bool) -> u8
-    ensures { λ r. ⌜ r ≡ lowest settings sizes lists time ⌝ }
+fn first_refusal(bad_settings: bool, bad_sizes: bool, bad_lists: bool, too_early: bool) -> u8
+    ensures { λ r. ⌜ r ≡ firstRefusal ((1, «bad_settings») ∷ (2, «bad_sizes») ∷ (3, «bad_lists») ∷ (4, «too_early») ∷ []) ⌝ }
 {
-    if settings {
+    if bad_settings {
         return 1;
     }
-    if sizes {
+    if bad_sizes {
         return 2;
     }
-    if lists {
+    if bad_lists {
         return 3;
     }
-    if time {
+    if too_early {
         return 4;
     }
     0
@@ -61,7 +62,7 @@ pub fn cold_start(
         ≡ started set time (stateOf (now (records .entry)) (now (tags .entry)) (now (counts .entry)) (now (clock .entry))) ⌝ }
 {
     let bad = tables::sizes::bad_sizes(records.len(), tags.len(), counts.len());
-    let number = lowest_of(set.is_bad(), bad, false, false);
+    let number = first_refusal(set.is_bad(), bad, false, false);
     if number != 0 {
         return Reply::Refused(number);
     }
@@ -80,10 +81,10 @@ pub fn pass(
     time: u32,
 ) -> Reply
     ensures { λ r. ⌜ afterOf r (now (records .exit)) (now (tags .exit)) (now (counts .exit)) (now (clock .exit))
-        ≡ passed (document01 set) set time (stateOf (now (records .entry)) (now (tags .entry)) (now (counts .entry)) (now (clock .entry))) ⌝ }
+        ≡ passed document01 set time (stateOf (now (records .entry)) (now (tags .entry)) (now (counts .entry)) (now (clock .entry))) ⌝ }
 {
     let bad = tables::sizes::bad_sizes(records.len(), tags.len(), counts.len());
-    let number = lowest_of(set.is_bad(), bad, false, time < *clock);
+    let number = first_refusal(set.is_bad(), bad, false, time < *clock);
     if number != 0 {
         return Reply::Refused(number);
     }
@@ -193,7 +194,7 @@ fn settle(
     counts: &mut [i16],
 ) -> Answer
     requires { ⌜ spot .slot < length (now records) ⌝ }
-    ensures { λ r. ⌜ leftOf r (now (records .exit)) (now (tags .exit)) (now (counts .exit))
+    ensures { λ r. ⌜ outcomeOf r (now (records .exit)) (now (tags .exit)) (now (counts .exit))
         ≡ settled (set .keys) spot ruling (tablesOf (now (records .entry)) (now (tags .entry)) (now (counts .entry))) ⌝ }
 {
     let slot = spot.slot;
@@ -217,8 +218,8 @@ fn judge_ours(
     counts: &mut [i16],
 ) -> Answer
     requires { ⌜ badSizes (length (now records)) (length (now tags)) (length (now counts)) ≡ false ⌝ }
-    ensures { λ r. ⌜ leftOf r (now (records .exit)) (now (tags .exit)) (now (counts .exit))
-        ≡ ours (document01 set) set header «from_plant» (tablesOf (now (records .entry)) (now (tags .entry)) (now (counts .entry))) ⌝ }
+    ensures { λ r. ⌜ outcomeOf r (now (records .exit)) (now (tags .exit)) (now (counts .exit))
+        ≡ ours document01 set header «from_plant» (tablesOf (now (records .entry)) (now (tags .entry)) (now (counts .entry))) ⌝ }
 {
     let spot = spot_of(set, header, from_plant, records.len(), tags.len());
     let ruling = ruling_at(set, header, from_plant, spot, records, tags, counts);
@@ -235,7 +236,7 @@ fn direction_in(cell: &[u8], plant: &[u8], header: Header) -> Direction
 }
 
 // Judges a packet by its direction. One that is not ours touches no table.
-fn decide(
+fn judge_by_direction(
     set: Settings,
     header: Header,
     direction: Direction,
@@ -244,8 +245,8 @@ fn decide(
     counts: &mut [i16],
 ) -> Answer
     requires { ⌜ badSizes (length (now records)) (length (now tags)) (length (now counts)) ≡ false ⌝ }
-    ensures { λ r. ⌜ leftOf r (now (records .exit)) (now (tags .exit)) (now (counts .exit))
-        ≡ decided (document01 set) set header direction (tablesOf (now (records .entry)) (now (tags .entry)) (now (counts .entry))) ⌝ }
+    ensures { λ r. ⌜ outcomeOf r (now (records .exit)) (now (tags .exit)) (now (counts .exit))
+        ≡ byDirection document01 set header direction (tablesOf (now (records .entry)) (now (tags .entry)) (now (counts .entry))) ⌝ }
 {
     match direction {
         Direction::FromCell => judge_ours(set, header, false, records, tags, counts),
@@ -267,10 +268,10 @@ fn accept(
 ) -> Answer
     requires { ⌜ badSizes (length (now records)) (length (now tags)) (length (now counts)) ≡ false ⌝ }
     ensures { λ r. ⌜ afterOf r (now (records .exit)) (now (tags .exit)) (now (counts .exit)) (now (clock .exit))
-        ≡ accepted (document01 set) set header direction time (stateOf (now (records .entry)) (now (tags .entry)) (now (counts .entry)) (now (clock .entry))) ⌝ }
+        ≡ accepted document01 set header direction time (stateOf (now (records .entry)) (now (tags .entry)) (now (counts .entry)) (now (clock .entry))) ⌝ }
 {
     tables::clock::pass(records, counts, clock, time, 1, set.dmiss, set.dconn);
-    decide(set, header, direction, records, tags, counts)
+    judge_by_direction(set, header, direction, records, tags, counts)
 }
 
 // The refusal of a packet before its headers are looked at, or 0.
@@ -281,13 +282,13 @@ fn refusal_before_headers(
     bad_tables: bool,
     too_early: bool,
 ) -> u8
-    ensures { λ r. ⌜ r ≡ lowest (badSettings set) «bad_tables» (badList (now (cell .entry)) || badList (now (plant .entry))) «too_early» ⌝ }
+    ensures { λ r. ⌜ r ≡ firstRefusal ((1, badSettings set) ∷ (2, «bad_tables») ∷ (3, badList (now (cell .entry)) || badList (now (plant .entry))) ∷ (4, «too_early») ∷ []) ⌝ }
 {
     let lists = sides::bad_list(cell) | sides::bad_list(plant);
-    lowest_of(set.is_bad(), bad_tables, lists, too_early)
+    first_refusal(set.is_bad(), bad_tables, lists, too_early)
 }
 
-// Judges a packet at a time.
+// Judges a packet that comes at a time: answers what document 01 says of it, and keeps tables and clock.
 pub fn judge(
     set: Settings,
     cell: &[u8],
@@ -300,7 +301,7 @@ pub fn judge(
     packet: &[u8],
 ) -> Answer
     ensures { λ r. ⌜ afterOf r (now (records .exit)) (now (tags .exit)) (now (counts .exit)) (now (clock .exit))
-        ≡ judged (document01 set) set (now (cell .entry)) (now (plant .entry)) time (now (packet .entry))
+        ≡ judged document01 set (now (cell .entry)) (now (plant .entry)) time (now (packet .entry))
         (stateOf (now (records .entry)) (now (tags .entry)) (now (counts .entry)) (now (clock .entry))) ⌝ }
 {
     let bad_tables = tables::sizes::bad_sizes(records.len(), tags.len(), counts.len());

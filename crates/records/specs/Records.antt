@@ -24,8 +24,11 @@ abbrev pub recordOf : Marks → ℕ → ℕ
 recordOf marks age = cond (marks .plant) 128 0 + cond (marks .cell) 64 0 + age
 
 -- "With neither bit it is cold, its age ignored."
+abbrev pub isUnmarked : Marks → Bool
+isUnmarked marks = not (marks .plant || marks .cell)
+
 abbrev pub isCold : ℕ → Bool
-isCold byte = not (plantSeen byte || cellSeen byte)
+isCold byte = isUnmarked (marksOf byte)
 
 -- "Each minute boundary passed adds 1 to the age of each marked record; a record whose age is then over Dconn becomes 0; unmarked ones
 -- become 0 too." Dconn is at most 62; for one over 63, 63 stands in its place, the most that six bits hold.

@@ -10,34 +10,34 @@ use Rattle.settings.specs.declared.Settings.{Settings}
 use Rattle.packet.specs.declared.Header.{Header}
 use Rattle.packet.specs.declared.kinds.Kind.{Kind}
 use Rattle.records.specs.declared.Marks.{Marks}
-use Rattle.records.specs.Records.{marksOf, recordOf, isCold}
+use Rattle.records.specs.Records.{marksOf, recordOf, isUnmarked}
 use Rattle.counts.specs.Counts.{isBlocked}
 use Rattle.rulings.specs.declared.Verdict.{Verdict}
 use Rattle.rulings.specs.declared.Verdict.the-variants.{Uncounted, CreditOfOne, CreditOfTwo, FreshContact, Hygiene, Blocked}
 use Rattle.rulings.specs.declared.Ruling.{Ruling}
 use Rattle.rulings.specs.Rules.{document01}
 use Rattle.rulings.specs.Rulings.{countWritten, isWritten, writtenOr, rulingOf}
-use Rattle.rulings.specs.Verdicts.{isForwarded, isClosing, isCounted, isUnmarked, marksAfter, verdictOf, recordAfter}
+use Rattle.rulings.specs.Verdicts.{isForwarded, isClosing, isCounted, plantBegins, marksAfter, verdictOf, recordAfter}
 
 -- ---- the record
-module _ (fromPlant : Bool) (kind : Kind) (verdict : Verdict) (byte : ℕ) {marks : Marks} {forwarded closing : Bool}
-    (m : marks ≡ marksOf byte) (f : forwarded ≡ isForwarded verdict) (c : closing ≡ isClosing kind) where
+module _ (fromPlant : Bool) (kind : Kind) (verdict : Verdict) (byte : ℕ) {marks : Marks} {dropped closing : Bool}
+    (m : marks ≡ marksOf byte) (f : dropped ≡ not (isForwarded verdict)) (c : closing ≡ isClosing kind) where
   -- the test of what leaves a record, as the definition has it
-  leaves-is : (not forwarded || ((fromPlant && isUnmarked marks) && closing))
-      ≡ (not (isForwarded verdict) || ((fromPlant && isUnmarked (marksOf byte)) && isClosing kind))
-  leaves-is = λ i. not (f i) || ((fromPlant && isUnmarked (m i)) && c i)
+  leaves-is : (dropped || (plantBegins fromPlant marks && closing))
+      ≡ (not (isForwarded verdict) || (plantBegins fromPlant (marksOf byte) && isClosing kind))
+  leaves-is = λ i. f i || (plantBegins fromPlant (m i) && c i)
 
-  pub left-alone : (not forwarded || ((fromPlant && isUnmarked marks) && closing)) ≡ true → byte ≡ recordAfter fromPlant kind verdict byte
+  pub left-alone : (dropped || (plantBegins fromPlant marks && closing)) ≡ true → byte ≡ recordAfter fromPlant kind verdict byte
   unfolding recordAfter
   left-alone t = sym (cond-at _ _ (sym leaves-is ∙ t))
 
-  pub renewed-as : {counted : Bool} {new : Marks} {r : ℕ} → (not forwarded || ((fromPlant && isUnmarked marks) && closing)) ≡ false
-      → counted ≡ isCounted verdict → new ≡ marksAfter fromPlant marks (counted || (fromPlant && isUnmarked marks)) → r ≡ recordOf new 0
+  pub renewed-as : {counted : Bool} {new : Marks} {r : ℕ} → (dropped || (plantBegins fromPlant marks && closing)) ≡ false
+      → counted ≡ isCounted verdict → new ≡ marksAfter fromPlant marks (counted || plantBegins fromPlant marks) → r ≡ recordOf new 0
       → r ≡ recordAfter fromPlant kind verdict byte
   unfolding recordAfter
   renewed-as t k n e =
       e ∙ ap (λ (x : Marks). recordOf x 0) n
-      ∙ (λ i. recordOf (marksAfter fromPlant (m i) (k i || (fromPlant && isUnmarked (m i)))) 0)
+      ∙ (λ i. recordOf (marksAfter fromPlant (m i) (k i || plantBegins fromPlant (m i))) 0)
       ∙ sym (cond-at _ _ (sym leaves-is ∙ t))
 
 -- ---- the ruling, by document 01's rules
@@ -64,8 +64,8 @@ pub ruled : (set : Settings) (h : Header) (fromPlant : Bool) (byte : ℕ) (count
 unfolding rulingOf
 ruled set h fromPlant byte count {blocked} {writes} {marks} {verdict} {new} {after} b m v n w a =
     (λ i. record { verdict = verdict; byte = n i; writes = (w ∙ sym (written-when (set .floor) 1 1 verdict count)) i; count = a i })
-    ∙ (λ i. made (no-attempt (isCold byte) i) verdict)
-    ∙ ap (made (cond (isCold byte) none none)) (v ∙ (λ i. verdictOf fromPlant (b i) (m i) (h .transport .kind)))
+    ∙ (λ i. made (no-attempt (isUnmarked (marksOf byte)) i) verdict)
+    ∙ ap (made (cond (isUnmarked (marksOf byte)) none none)) (v ∙ (λ i. verdictOf fromPlant (b i) (m i) (h .transport .kind)))
   where
     made : Option ℤ → Verdict → Ruling
     made attempt x =

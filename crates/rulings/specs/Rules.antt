@@ -1,6 +1,7 @@
 -- What a run's rules are made of, and document 01's own. The gateway's step is defined over any such rules.
 -- Assumes nothing.
 use mathlib.Core.Bool.{Bool, cond}
+use mathlib.Core.List.{List}
 use mathlib.Core.Option.{Option, none}
 use Prim.Native.Nat.{ℕ}
 use lib.IntN.{ℤ}
@@ -22,12 +23,12 @@ pub record Rules : Type 0 where
   pub floor : ℤ
   -- the size of a point: a credit of one takes it from a count, and so does each multiple of Dmiss passed
   pub point : ℕ
-  -- what a fresh contact, this packet, adds to its cell address's count
-  pub weight : Header → Bool → ℕ
+  -- what a fresh contact, this packet from the cell, adds to its cell address's count
+  pub weight : Header → ℕ
   -- the count that an attempt, dropped as blocked on a slot with neither mark, writes over this one, if it writes
   pub attempt : Header → ℤ → Option ℤ
-  -- the slot of a packet of ours, among so many records
-  pub slot : Header → Bool → ℕ → ℕ
+  -- the slot of a packet of ours by the keys, among so many records
+  pub slot : List ℕ → Header → Bool → ℕ → ℕ
 
 -- Document 01's rules, by the settings: counts are in points; "count+1 for 4"; "Dropped packets alter neither table"; a slot is that of
 -- plant address, cell address and port.
@@ -37,7 +38,7 @@ document01 set =
       threshold = set .threshold;
       floor = set .floor;
       point = 1;
-      weight = λ h fromPlant. 1;
+      weight = λ h. 1;
       attempt = λ h count. none;
-      slot = λ h fromPlant records. slotOf (set .keys) (plantOf h fromPlant) (cellOf h fromPlant) (portOf h fromPlant) records;
+      slot = λ keys h fromPlant records. slotOf keys (plantOf h fromPlant) (cellOf h fromPlant) (portOf h fromPlant) records;
     }

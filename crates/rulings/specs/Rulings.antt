@@ -5,7 +5,7 @@ use mathlib.Core.Option.{Option, none, some}
 use Prim.Native.Nat.{ℕ, _*_}
 use lib.IntN.{ℤ, pos}
 use Rattle.packet.specs.declared.Header.{Header}
-use Rattle.records.specs.Records.{marksOf, isCold}
+use Rattle.records.specs.Records.{marksOf, isUnmarked}
 use Rattle.counts.specs.Counts.{isBlocked, loweredBy, raisedBy}
 use Rattle.rulings.specs.declared.Verdict.{Verdict}
 use Rattle.rulings.specs.declared.Verdict.the-variants.{Uncounted, CreditOfOne, CreditOfTwo, FreshContact, Hygiene, Blocked}
@@ -14,15 +14,15 @@ use Rattle.rulings.specs.Rules.{Rules}
 use Rattle.rulings.specs.Verdicts.{verdictOf, recordAfter}
 
 -- "The cell address's count becomes the larger of Cmin and count-1 for 2, the same with count-2 for 3, and count+1 for 4. Only these
--- write an entry": the count that is written, if one is. For 4 there is no ceiling but 32,767, the largest count there is; under
--- document 01's rules an attempt that is dropped writes none.
+-- write an entry": the count that is written, if one is. A packet dropped as blocked writes what its attempt does, which under document
+-- 01's rules is none.
 unfoldable pub countWritten : ℤ → ℕ → ℕ → Option ℤ → Verdict → ℤ → Option ℤ
-countWritten floor point weight attempt Uncounted count = none
-countWritten floor point weight attempt CreditOfOne count = some (loweredBy point floor count)
-countWritten floor point weight attempt CreditOfTwo count = some (loweredBy (2 * point) floor count)
-countWritten floor point weight attempt FreshContact count = some (raisedBy weight (pos 32767) count)
-countWritten floor point weight attempt Hygiene count = none
-countWritten floor point weight attempt Blocked count = attempt
+countWritten floor point weight attempted Uncounted count = none
+countWritten floor point weight attempted CreditOfOne count = some (loweredBy point floor count)
+countWritten floor point weight attempted CreditOfTwo count = some (loweredBy (2 * point) floor count)
+countWritten floor point weight attempted FreshContact count = some (raisedBy weight (pos 32767) count)
+countWritten floor point weight attempted Hygiene count = none
+countWritten floor point weight attempted Blocked count = attempted
 
 abbrev pub isWritten : Option ℤ → Bool
 isWritten none = false
@@ -40,7 +40,7 @@ module _ (rules : Rules) (h : Header) (fromPlant : Bool) (byte : ℕ) (count : �
 
   abbrev pub newCount : Option ℤ
   newCount =
-      countWritten (rules .floor) (rules .point) (rules .weight h fromPlant) (cond (isCold byte) (rules .attempt h count) none) verdictBy count
+      countWritten (rules .floor) (rules .point) (rules .weight h) (cond (isUnmarked (marksOf byte)) (rules .attempt h count) none) verdictBy count
 
   unfoldable pub rulingOf : Ruling
   rulingOf =

@@ -5,7 +5,7 @@ use Prim.Native.Nat.{ℕ}
 use Rattle.packet.specs.declared.kinds.Kind.{Kind}
 use Rattle.packet.specs.declared.kinds.Kind.the-variants.{Udp, Opening, SynAck, Closing, Plain}
 use Rattle.records.specs.declared.Marks.{Marks}
-use Rattle.records.specs.Records.{marksOf, recordOf}
+use Rattle.records.specs.Records.{marksOf, recordOf, isUnmarked}
 use Rattle.rulings.specs.declared.Verdict.{Verdict}
 use Rattle.rulings.specs.declared.Verdict.the-variants.{Uncounted, CreditOfOne, CreditOfTwo, FreshContact, Hygiene, Blocked}
 
@@ -113,15 +113,15 @@ isCounted FreshContact = true
 isCounted Hygiene = false
 isCounted Blocked = false
 
-abbrev pub isUnmarked : Marks → Bool
-isUnmarked marks = not (marks .plant || marks .cell)
-
 -- from the plant, "Neither: 1; closing leaves the record untouched, else own is set"
+abbrev pub plantBegins : Bool → Marks → Bool
+plantBegins fromPlant marks = fromPlant && isUnmarked marks
+
 abbrev pub isUntouched : Bool → Marks → Kind → Bool
-isUntouched fromPlant marks kind = (fromPlant && isUnmarked marks) && isClosing kind
+isUntouched fromPlant marks kind = plantBegins fromPlant marks && isClosing kind
 
 abbrev pub setsOwn : Bool → Marks → Verdict → Bool
-setsOwn fromPlant marks verdict = isCounted verdict || (fromPlant && isUnmarked marks)
+setsOwn fromPlant marks verdict = isCounted verdict || plantBegins fromPlant marks
 
 -- the marks, with the packet's own set or as they were
 abbrev pub marksAfter : Bool → Marks → Bool → Marks

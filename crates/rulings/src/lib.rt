@@ -1,6 +1,6 @@
 // What a packet of ours gets: its verdict, and what that makes of its record and of its cell address's count. Nothing here touches a
 // table.
-ghost use mathlib.Core.Bool.{_||_};
+ghost use mathlib.Core.Bool.{not, _||_};
 ghost use mathlib.Core.Path.{_≡_};
 ghost use mathlib.Core.Option.{none};
 ghost use Rattle.rulings.specs.Verdicts.{numberOf, isForwarded, isCounted, isClosing, isSynAck, isUdp, isOpening, unlessClosing, fromThePlant, fromTheCell, fromBlockedCell, verdictOf, marksAfter, recordAfter};
@@ -52,17 +52,17 @@ pub fn number(verdict: Verdict) -> u8
     }
 }
 
-// Whether a verdict lets the packet through.
-pub fn is_forwarded(verdict: Verdict) -> bool
-    ensures { λ r. ⌜ r ≡ isForwarded verdict ⌝ }
+// Whether a verdict drops the packet.
+fn is_dropped(verdict: Verdict) -> bool
+    ensures { λ r. ⌜ r ≡ not (isForwarded verdict) ⌝ }
 {
     match verdict {
-        Verdict::Uncounted => true,
-        Verdict::CreditOfOne => true,
-        Verdict::CreditOfTwo => true,
-        Verdict::FreshContact => true,
-        Verdict::Hygiene => false,
-        Verdict::Blocked => false,
+        Verdict::Uncounted => false,
+        Verdict::CreditOfOne => false,
+        Verdict::CreditOfTwo => false,
+        Verdict::FreshContact => false,
+        Verdict::Hygiene => true,
+        Verdict::Blocked => true,
     }
 }
 
@@ -93,7 +93,7 @@ fn is_closing(kind: Kind) -> bool
     }
 }
 
-// Whether a packet is one that no host sends first: closing, or SYN+ACK.
+// Whether a packet is closing or SYN+ACK, which hygiene drops where the cell sends it on a record with neither mark.
 fn is_closing_or_syn_ack(kind: Kind) -> bool
     ensures { λ r. ⌜ r ≡ (isClosing kind || isSynAck kind) ⌝ }
 {
@@ -106,7 +106,7 @@ fn is_closing_or_syn_ack(kind: Kind) -> bool
     }
 }
 
-// Whether a packet is one that may start something new: UDP, or opening.
+// Whether a packet is UDP or opening, which a blocked cell address gets through on no record.
 fn is_udp_or_opening(kind: Kind) -> bool
     ensures { λ r. ⌜ r ≡ (isUdp kind || isOpening kind) ⌝ }
 {
@@ -124,9 +124,10 @@ fn unless_closing(kind: Kind, credit: Verdict) -> Verdict
     ensures { λ r. ⌜ r ≡ unlessClosing kind credit ⌝ }
 {
     if is_closing(kind) {
-        return Verdict::Uncounted;
+        Verdict::Uncounted
+    } else {
+        credit
     }
-    credit
 }
 
 // The verdict on a packet from the plant.
@@ -203,7 +204,7 @@ fn record_after(from_plant: bool, kind: Kind, verdict: Verdict, byte: u8) -> u8
 {
     let marks = records::marks_of(byte);
     let first = from_plant & !(marks.plant | marks.cell);
-    if !is_forwarded(verdict) | (first & is_closing(kind)) {
+    if is_dropped(verdict) | (first & is_closing(kind)) {
         return byte;
     }
     records::renewed(marks_after(from_plant, marks, is_counted(verdict) | first))

@@ -10,7 +10,7 @@ use lib.Seq.{getD-set-same, getD-set-other}
 use Rattle.rulings.specs.declared.Verdict.{Verdict}
 use Rattle.rulings.specs.declared.Verdict.the-variants.{Uncounted, CreditOfOne, CreditOfTwo, FreshContact, Hygiene, Blocked}
 use Rattle.rulings.specs.declared.answers.Answer.the-variants.{Refused}
-use Rattle.rulings.specs.Answers.{verdictIn}
+use Rattle.rulings.specs.Answers.{verdictTold}
 use Rattle.rulings.specs.Verdicts.{numberOf}
 use Rattle.tally.specs.declared.Tally.{Tally}
 use Rattle.tally.specs.Tally.{oneMore, tallied}
@@ -25,7 +25,7 @@ has-total Hygiene = omega arith
 has-total Blocked = omega arith
 
 -- a refusal adds nothing
-pub refusal-adds-nothing : (t : Tally) (n : ℕ) → tallied t (verdictIn (Refused n)) ≡ t
+pub refusal-adds-nothing : (t : Tally) (n : ℕ) → tallied t (verdictTold (Refused n)) ≡ t
 unfolding tallied
 refusal-adds-nothing t n = refl
 

@@ -2,7 +2,7 @@
 ghost use mathlib.Core.Path.{_≡_};
 ghost use mathlib.Core.Option.{some};
 ghost use Prim.Native.Nat.{_<_};
-ghost use Rattle.rulings.specs.Answers.{verdictIn};
+ghost use Rattle.rulings.specs.Answers.{verdictTold};
 ghost use Rattle.tally.specs.Tally.{emptyTally, oneMore, tallied};
 use rulings::answers::Answer;
 
@@ -39,7 +39,7 @@ impl Tally {
 
     // The tally with an answer's verdict added. A refusal has none.
     pub fn with(self, answer: Answer) -> Tally
-        ensures { λ r. ⌜ r ≡ tallied self (verdictIn answer) ⌝ }
+        ensures { λ r. ⌜ r ≡ tallied self (verdictTold answer) ⌝ }
     {
         match answer {
             Answer::Refused(_) => self,
@@ -51,7 +51,7 @@ impl Tally {
 
 // Adds an answer's verdict to the tally that is lent.
 pub fn add(tally: &mut Tally, answer: Answer)
-    ensures { λ _. ⌜ now (tally .exit) ≡ tallied (now (tally .entry)) (verdictIn answer) ⌝ }
+    ensures { λ _. ⌜ now (tally .exit) ≡ tallied (now (tally .entry)) (verdictTold answer) ⌝ }
 {
     *tally = (*tally).with(answer);
 }

@@ -1,7 +1,8 @@
 -- `cold::fill` meets its contract: each table is filled, one after the other.
 -- Assumes nothing.
 use borrow.Author.Needs.{needs}
-use Rattle.cold.specs.Tables.{tablesOf, coldTables}
+use Rattle.tables.specs.Tables.{tablesOf}
+use Rattle.cold.specs.Cold.{coldTables}
 use Rattle.cold.proofs.fill.Statement.{statement}
 use Rattle.cold.proofs.fill.Tie as tie
 

@@ -11,8 +11,8 @@ use Rattle.gateway.proofs.accept.Tie as tie
 pass-requires : tie.Need-pass-requires
 pass-requires c κs = search needs
 
-decide-requires : tie.Need-decide-requires
-decide-requires c κs =
+judge-by-direction-requires : tie.Need-judge-by-direction-requires
+judge-by-direction-requires c κs =
     let k = c .before .before .before .before .before .before .pass .kept in
     rw (k .0, k .1 .0) (c .before .before .before .before .before .before .before .before .before .before .before .before .pre)
 
@@ -28,11 +28,11 @@ same-length-3 c = search needs
 returns : tie.Need-returns
 returns c =
     let s = c .before .before .before .before .before .before .before .before .before .before .before .before .before .before .before .before .before .before in
-    accepted-as (document01 (s .args .set)) (s .args .set) (s .args .header) (s .args .direction) (s .args .time)
+    accepted-as document01 (s .args .set) (s .args .header) (s .args .direction) (s .args .time)
     (stateOf (now (s .args .records)) (now (s .args .tags)) (now (s .args .counts)) (now (s .args .clock)))
-    (c .before .before .before .before .before .before .before .before .before .before .before .before .pass .ensures) (c .before .before .before .before .before .decide .ensures)
+    (c .before .before .before .before .before .before .before .before .before .before .before .before .pass .ensures) (c .before .before .before .before .before .judge-by-direction .ensures)
 
 pub accept-spec : {M : Type 1} → statement M
 accept-spec =
     tie.close
-    (tie.spec pass-requires decide-requires same-length same-length-2 same-length-3 returns)
+    (tie.spec pass-requires judge-by-direction-requires same-length same-length-2 same-length-3 returns)

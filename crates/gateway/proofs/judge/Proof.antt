@@ -7,8 +7,8 @@ use lib.Dec.{ltb}
 use lib.ListN.{length}
 use denote.Ref.{now}
 use borrow.Author.Needs.{needs}
-use Rattle.gateway.proofs.Steps.{each-passed, refused-first, refused-reading, judged-as}
-use Rattle.gateway.specs.Calls.{stateOf, lowest}
+use Rattle.gateway.proofs.Steps.{four, each-passed, refused-first, refused-reading, judged-as}
+use Rattle.gateway.specs.Calls.{stateOf}
 use Rattle.rulings.specs.Rules.{document01}
 use Rattle.settings.specs.Settings.{badSettings}
 use Rattle.sides.specs.Lists.{badList}
@@ -18,12 +18,12 @@ use Rattle.gateway.proofs.judge.Tie as tie
 
 -- the number that the first four tests give
 first-is : (c : tie.After-refusal-before-headers) → let s = c .before .before .before .before .before .before .before .before in
-    c .refusal-before-headers .result ≡ lowest (badSettings (s .args .set)) (badSizes (length (now (s .args .records))) (length (now (s .args .tags))) (length (now (s .args .counts))))
+    c .refusal-before-headers .result ≡ four (badSettings (s .args .set)) (badSizes (length (now (s .args .records))) (length (now (s .args .tags))) (length (now (s .args .counts))))
     (badList (now (s .args .cell)) || badList (now (s .args .plant))) (ltb (s .args .time) (now (s .args .clock)))
 first-is c =
     let s = c .before .before .before .before .before .before .before .before in
     c .refusal-before-headers .ensures
-    ∙ ap (λ (t : Bool). lowest (badSettings (s .args .set)) t (badList (now (s .args .cell)) || badList (now (s .args .plant))) (ltb (s .args .time) (now (s .args .clock)))) (c .before .before .bad-sizes .ensures)
+    ∙ ap (λ (t : Bool). four (badSettings (s .args .set)) t (badList (now (s .args .cell)) || badList (now (s .args .plant))) (ltb (s .args .time) (now (s .args .clock)))) (c .before .before .bad-sizes .ensures)
 
 bad-sizes-requires : tie.Need-bad-sizes-requires
 bad-sizes-requires c κs = search needs
@@ -34,7 +34,7 @@ refusal-before-headers-requires c κs = search needs
 returns : tie.Need-returns
 returns c =
     let s = c .before .before .before .before .before .before .before .before .before in
-    refused-first (document01 (s .args .set)) (s .args .set) (now (s .args .cell)) (now (s .args .plant)) (s .args .time) (now (s .args .packet))
+    refused-first document01 (s .args .set) (now (s .args .cell)) (now (s .args .plant)) (s .args .time) (now (s .args .packet))
     (stateOf (now (s .args .records)) (now (s .args .tags)) (now (s .args .counts)) (now (s .args .clock)))
     (first-is (c .before)) (c .if1 .taken)
 
@@ -58,7 +58,7 @@ accept-requires c κs =
 returns-2 : tie.Need-returns-2
 returns-2 c =
     let s = c .before .before .before .before .before .before .before .before .before .before .before .before .before in
-    refused-reading (document01 (s .args .set)) (s .args .set) (now (s .args .cell)) (now (s .args .plant)) (s .args .time) (now (s .args .packet))
+    refused-reading document01 (s .args .set) (now (s .args .cell)) (now (s .args .plant)) (s .args .time) (now (s .args .packet))
     (stateOf (now (s .args .records)) (now (s .args .tags)) (now (s .args .counts)) (now (s .args .clock)))
     (sym (first-is (c .before .before .before .before .before)) ∙ c .before .before .before .before .if1 .left) (c .before .before .before .read .ensures) (c .before .number .given .1)
 
@@ -74,7 +74,7 @@ same-length-3 c = search needs
 returns-3 : tie.Need-returns-3
 returns-3 c =
     let s = c .before .before .before .before .before .before .before .before .before .before .before .before .before .before .before .before .before .before .before .before .before .before .before .before in
-    judged-as (document01 (s .args .set)) (s .args .set) (now (s .args .cell)) (now (s .args .plant)) (s .args .time) (now (s .args .packet))
+    judged-as document01 (s .args .set) (now (s .args .cell)) (now (s .args .plant)) (s .args .time) (now (s .args .packet))
     (stateOf (now (s .args .records)) (now (s .args .tags)) (now (s .args .counts)) (now (s .args .clock)))
     (sym (first-is (c .before .before .before .before .before .before .before .before .before .before .before .before .before .before .before .before)) ∙ c .before .before .before .before .before .before .before .before .before .before .before .before .before .before .before .if1 .left) (c .before .before .before .before .before .before .before .before .before .before .before .before .before .before .read .ensures) (c .before .before .before .before .before .before .before .before .before .before .before .before .header .given .1)
     (c .before .before .before .before .before .before .before .before .before .before .direction-in .ensures) (c .before .before .before .before .before .accept .ensures)

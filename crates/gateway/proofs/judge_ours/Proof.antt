@@ -2,7 +2,7 @@
 -- Assumes nothing.
 use denote.Ref.{now}
 use borrow.Author.Needs.{needs}
-use Rattle.cold.specs.Tables.{tablesOf}
+use Rattle.tables.specs.Tables.{tablesOf}
 use Rattle.gateway.proofs.Steps.{sizes-within, slot-within, ours-as}
 use Rattle.rulings.specs.Rules.{document01}
 use Rattle.gateway.proofs.judge_ours.Statement.{statement}
@@ -35,7 +35,7 @@ same-length-3 c = search needs
 returns : tie.Need-returns
 returns c =
     let s = c .before .before .before .before .before .before .before .before .before .before .before .before .before .before .before .before in
-    ours-as (document01 (s .args .set)) (s .args .set) (s .args .header) (s .args .from-plant) (tablesOf (now (s .args .records)) (now (s .args .tags)) (now (s .args .counts)))
+    ours-as document01 (s .args .set) (s .args .header) (s .args .from-plant) (tablesOf (now (s .args .records)) (now (s .args .tags)) (now (s .args .counts)))
     (c .before .before .before .before .before .before .before .before .before .before .before .before .before .spot-of .ensures) (c .before .before .before .before .before .before .before .before .before .ruling-at .ensures) (c .before .before .before .before .before .settle .ensures)
 
 pub judge-ours-spec : {M : Type 1} → statement M

@@ -3,7 +3,7 @@
 use mathlib.Core.Bool.{_||_}
 use mathlib.Core.Path.{_∙_}
 use borrow.Author.Needs.{needs}
-use Rattle.gateway.specs.Calls.{lowest}
+use Rattle.gateway.proofs.Steps.{four}
 use Rattle.gateway.proofs.refusal_before_headers.Statement.{statement}
 use Rattle.gateway.proofs.refusal_before_headers.Tie as tie
 
@@ -16,15 +16,15 @@ bad-list-requires-2 c κs = search needs
 is-bad-requires : tie.Need-is-bad-requires
 is-bad-requires c κs = search needs
 
-lowest-of-requires : tie.Need-lowest-of-requires
-lowest-of-requires c κs = search needs
+first-refusal-requires : tie.Need-first-refusal-requires
+first-refusal-requires c κs = search needs
 
 returns : tie.Need-returns
 returns c =
     let s = c .before .before .before .before .before .before in
-    c .lowest-of .ensures ∙ (λ i. lowest (c .before .is-bad .ensures i) (s .args .bad-tables) (c .before .before .before .bad-list .ensures i || c .before .before .bad-list2 .ensures i) (s .args .too-early))
+    c .first-refusal .ensures ∙ (λ i. four (c .before .is-bad .ensures i) (s .args .bad-tables) (c .before .before .before .bad-list .ensures i || c .before .before .bad-list2 .ensures i) (s .args .too-early))
 
 pub refusal-before-headers-spec : {M : Type 1} → statement M
 refusal-before-headers-spec =
     tie.close
-    (tie.spec bad-list-requires bad-list-requires-2 is-bad-requires lowest-of-requires returns)
+    (tie.spec bad-list-requires bad-list-requires-2 is-bad-requires first-refusal-requires returns)

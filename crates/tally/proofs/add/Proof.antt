@@ -39,7 +39,7 @@ use denote.Triple.Table.{entered, cited}
 use denote.Triple.Walked.{says, Stays, stay-ref, stay-none, walkOf, AllGo, goes-none, goes-ref, Walks, ends-at, walked, walk-meets}
 use denote.Exit.{yes}
 use Rattle.rulings.specs.declared.answers.Answer.{Answer}
-use Rattle.rulings.specs.Answers.{verdictIn}
+use Rattle.rulings.specs.Answers.{verdictTold}
 use Rattle.rulings.proofs.answers.Answer as answer
 use Rattle.rulings.proofs.answers.Answer.Laws as answer-laws
 use Rattle.tally.specs.declared.Tally.{Tally}
@@ -72,9 +72,9 @@ module _ {M : Type 1} (𝓤 : URA M) (H : Heap 𝓤) (A : Atoms 𝓤) (at-mem : 
   abbrev With-ensured : Tally → Answer → Tally → SProp 𝓤
   With-ensured old said r = ensured 𝓤 H A with.ended (with.clauses 𝓤 H A at-mem run) tt (old, (said, tt)) tt r
 
-  with-says : (old : Tally) (said : Answer) (r : Tally) → ent 𝓤 (With-ensured old said r) (fact 𝓤 (r ≡ tallied old (verdictIn said)))
+  with-says : (old : Tally) (said : Answer) (r : Tally) → ent 𝓤 (With-ensured old said r) (fact 𝓤 (r ≡ tallied old (verdictTold said)))
   with-says old said r =
-      exE 𝓤 _ (λ ws. snd∗ 𝓤 (sem 𝓤 H A (lasts with.ended tt (old, (said, tt)) ws)) (fact 𝓤 (r ≡ tallied old (verdictIn said))))
+      exE 𝓤 _ (λ ws. snd∗ 𝓤 (sem 𝓤 H A (lasts with.ended tt (old, (said, tt)) ws)) (fact 𝓤 (r ≡ tallied old (verdictTold said))))
 
   module _ (W : Given 𝓤 H A) where
     -- the machine value of either has its MIR type
@@ -96,7 +96,7 @@ module _ {M : Type 1} (𝓤 : URA M) (H : Heap 𝓤) (A : Atoms 𝓤) (at-mem : 
       at = (vptr b o ∷ [], (answer-is said ∷ [], tt))
 
       abbrev new : Tally
-      new = tallied old (verdictIn said)
+      new = tallied old (verdictTold said)
 
       abbrev Post : Val → SProp 𝓤
       Post = walkOf 𝓤 H A add.ended stayed (add.clauses 𝓤 H A at-mem run) .post (((κ, tt), (q, tt), tt, x, at), tt)

@@ -1,9 +1,9 @@
--- `gateway::decide` meets its contract: by the direction, a packet of ours or one that touches nothing.
+-- `gateway::judge_by_direction` meets its contract: by the direction, a packet of ours or one that touches nothing.
 -- Assumes nothing.
 use borrow.Author.Needs.{needs}
-use Rattle.gateway.specs.Packets.{decided}
-use Rattle.gateway.proofs.decide.Statement.{statement}
-use Rattle.gateway.proofs.decide.Tie as tie
+use Rattle.gateway.specs.Packets.{byDirection}
+use Rattle.gateway.proofs.judge_by_direction.Statement.{statement}
+use Rattle.gateway.proofs.judge_by_direction.Tie as tie
 
 enum-told : tie.Need-enum-told
 enum-told c = search needs
@@ -30,7 +30,7 @@ same-length-3 : tie.Need-same-length-3
 same-length-3 c = search needs
 
 returns : tie.Need-returns
-unfolding decided
+unfolding byDirection
 returns c = rw (c .before .before .before .before .before .before .before .before .before .enum-told .given .1) (c .before .before .before .before .before .judge-ours .ensures)
 
 same-length-4 : tie.Need-same-length-4
@@ -43,15 +43,15 @@ same-length-6 : tie.Need-same-length-6
 same-length-6 c = search needs
 
 returns-2 : tie.Need-returns-2
-unfolding decided
+unfolding byDirection
 returns-2 c = rw (c .before .before .before .before .before .before .before .before .before .enum-told2 .given .1) (c .before .before .before .before .before .judge-ours2 .ensures)
 
 returns-3 : tie.Need-returns-3
-unfolding decided
+unfolding byDirection
 returns-3 c = rw (c .enum-told3 .given .1)
 
-pub decide-spec : {M : Type 1} → statement M
-decide-spec =
+pub judge-by-direction-spec : {M : Type 1} → statement M
+judge-by-direction-spec =
     tie.close
     (tie.spec
     enum-told
