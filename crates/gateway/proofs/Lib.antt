@@ -1,2 +1,4 @@
 -- What is proved of the gateway beyond the contracts.
 pub mod Steps
+pub mod Refusals
+pub mod Jumps

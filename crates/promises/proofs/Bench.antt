@@ -7,8 +7,10 @@ use Rattle.laws.specs.Times.{times, howMany}
 use Rattle.permute.specs.Permutation.{boxes, nibbles, round, rounds, E}
 use Rattle.places.specs.Places.{slotOf, placeOf}
 use Rattle.records.specs.Records.{minutePassed, agedBy}
-use Rattle.counts.specs.Counts.{larger, pointLess, decayedBy}
+use Rattle.counts.specs.Counts.{larger, smaller, pointLess, decayedBy}
 use Rattle.tables.specs.Clock.{multiplesPassed, timePassed}
+use Rattle.rulings.specs.Verdicts.{fromTheCell, fromBlockedCell, verdictOf, recordAfter}
+use Rattle.rulings.specs.Rulings.{countWritten, rulingOf}
 use Rattle.promises.specs.Bench.{zeros, table}
 
 -- the permutation is computed once for each word that the table has, and not again inside slots and lines
@@ -29,10 +31,10 @@ unfolding boxes nibbles round rounds E
 at-key-one = refl
 
 pub bench : map (λ r. r .computed) table ≡ map (λ r. r .said) table
-unfolding times howMany table slotOf placeOf minutePassed agedBy larger pointLess decayedBy multiplesPassed timePassed
+unfolding times howMany table slotOf placeOf minutePassed agedBy larger smaller pointLess decayedBy multiplesPassed timePassed fromTheCell fromBlockedCell verdictOf recordAfter countWritten rulingOf
 bench = simp (at-zero, at-ones, at-nines, at-key-one)
 
--- which rows stand; 7, 8 and 12 wait for the verdict
-pub rows : map (λ r. r .number) table ≡ 1 ∷ 2 ∷ 3 ∷ 4 ∷ 5 ∷ 6 ∷ 9 ∷ 10 ∷ 11 ∷ []
+-- all twelve stand
+pub rows : map (λ r. r .number) table ≡ 1 ∷ 2 ∷ 3 ∷ 4 ∷ 5 ∷ 6 ∷ 7 ∷ 8 ∷ 9 ∷ 10 ∷ 11 ∷ 12 ∷ []
 unfolding table
 rows = refl

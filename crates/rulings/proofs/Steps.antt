@@ -42,7 +42,7 @@ module _ (fromPlant : Bool) (kind : Kind) (verdict : Verdict) (byte : ℕ) {mark
 
 -- ---- the ruling, by document 01's rules
 -- an attempt that is dropped writes nothing, whatever the marks
-no-attempt : (cold : Bool) → none ≡ cond {A = Option ℤ} cold none none
+pub no-attempt : (cold : Bool) → none ≡ cond {A = Option ℤ} cold none none
 no-attempt true = refl
 no-attempt false = refl
 

@@ -7,6 +7,7 @@ use native.Mathlib.Nat.{mod-zero, div-zero, add-mul, zero-mul}
 use native.Mathlib.Omega.{arith}
 use lib.Dec.{eqb}
 use lib.IntN.{ℤ}
+use lib.ListN.{length, length-map}
 use borrow.Author.Tests.{ne-eqb}
 use Rattle.laws.proofs.Sweep.{map-none, map-added}
 use Rattle.laws.proofs.Tests.{Which, below, above, which}
@@ -52,6 +53,10 @@ pub passed-add : (k a b c : ℕ) → a ≤ b → b ≤ c → multiplesPassed k a
 passed-add k a b c h l =
     omega (arith, passed-is k a b h, passed-is k b c l, passed-is k a c (omega arith), quotient-up k h, quotient-up k l)
 
+-- "Running one tick for a gap of two hours" is an easy slip: it has 120 minute boundaries, wherever it starts
+pub two-hours : (old : ℕ) → multiplesPassed 60 old (old + 7200) ≡ 120
+two-hours old = omega (arith, passed-is 60 old (old + 7200) (omega arith))
+
 -- ---- points
 -- a count after so many multiples, of which each takes a point
 abbrev decays : ℕ → ℕ → ℤ → ℤ
@@ -76,6 +81,15 @@ module _ (point dmiss dconn : ℕ) where
   pub clock-is : (time : ℕ) (m : Timed) → timePassed point dmiss dconn time m .clock ≡ max (m .clock) time
   unfolding timePassed
   clock-is time m = refl
+
+  -- no table gets longer or shorter
+  pub records-stay : (time : ℕ) (m : Timed) → length (timePassed point dmiss dconn time m .records) ≡ length (m .records)
+  unfolding timePassed
+  records-stay time m = length-map (m .records) (agedBy dconn (multiplesPassed 60 (m .clock) time))
+
+  pub counts-stay : (time : ℕ) (m : Timed) → length (timePassed point dmiss dconn time m .counts) ≡ length (m .counts)
+  unfolding timePassed
+  counts-stay time m = length-map (m .counts) (decays point (multiplesPassed dmiss (m .clock) time))
 
   -- a time that is not after the clock changes nothing
   pub stands : (time : ℕ) (m : Timed) → time ≤ m .clock → timePassed point dmiss dconn time m ≡ m

@@ -1,0 +1,71 @@
+-- Demand 2, of the calls: passing a gap by one call leaves the state that a call for each of its seconds leaves.
+-- Assumes nothing.
+use mathlib.Core.Bool.{false}
+use mathlib.Core.Path.{_≡_, sym, ap, _∙_}
+use Prim.Native.Nat.{ℕ, zero, suc, _+_, _≤_}
+use native.Mathlib.Omega.{arith}
+use lib.ListN.{length}
+use borrow.Author.Tests.{le-ltb}
+use Rattle.laws.specs.Times.{times}
+use Rattle.laws.proofs.Times.{times-none, times-more}
+use Rattle.settings.specs.declared.Settings.{Settings}
+use Rattle.settings.specs.Settings.{badSettings}
+use Rattle.tables.specs.Sizes.{badSizes}
+use Rattle.tables.specs.Clock.{Timed, timedOf}
+use Rattle.tables.proofs.Jumps.{clock-is, records-stay, counts-stay, stands, by-way-of}
+use Rattle.rulings.specs.Rules.{Rules}
+use Rattle.gateway.specs.Calls.{State, stateOf, badTables, onward, timeRefusal, passed}
+
+-- what time changes of a state, and a state with that changed
+abbrev timedIn : State → Timed
+timedIn s = timedOf (s .tables .records) (s .tables .counts) (s .clock)
+
+abbrev changedTo : State → Timed → State
+changedTo s m = stateOf (m .records) (s .tables .tags) (m .counts) (m .clock)
+
+module _ (rules : Settings → Rules) (settings : Settings) where
+  abbrev at : ℕ → State → State
+  at time s = onward (rules settings .point) settings time s
+
+  -- the sizes stay
+  sizes-stay : (time : ℕ) (s : State) → badTables (at time s .tables) ≡ badTables (s .tables)
+  sizes-stay time s = λ i. badSizes
+      (records-stay (rules settings .point) (settings .dmiss) (settings .dconn) time (timedIn s) i)
+      (length (s .tables .tags))
+      (counts-stay (rules settings .point) (settings .dmiss) (settings .dconn) time (timedIn s) i)
+
+  -- the clock is then the time
+  clock-at : (time : ℕ) (s : State) → s .clock ≤ time → at time s .clock ≡ time
+  clock-at time s h = omega (arith, clock-is (rules settings .point) (settings .dmiss) (settings .dconn) time (timedIn s))
+
+  -- by way of a moment between
+  at-at : (between time : ℕ) (s : State) → s .clock ≤ between → between ≤ time → at time (at between s) ≡ at time s
+  at-at between time s h l =
+      ap (changedTo s) (sym (by-way-of (rules settings .point) (settings .dmiss) (settings .dconn) between time (timedIn s) h l))
+
+  module _ (good : badSettings settings ≡ false) where
+    -- a call that is not refused
+    pub not-refused : (time : ℕ) (s : State) → badTables (s .tables) ≡ false → s .clock ≤ time → passed rules settings time s .state ≡ at time s
+    unfolding passed timeRefusal
+    not-refused time s sized h = rw (good, sized, le-ltb _ _ h)
+
+    -- a call that passes to the next second
+    abbrev pub nextSecond : State → State
+    nextSecond s = passed rules settings (suc (s .clock)) s .state
+
+    seconds : (gap : ℕ) (s : State) → badTables (s .tables) ≡ false → times gap nextSecond s ≡ at (s .clock + gap) s
+    seconds zero s sized =
+        times-none nextSecond s
+        ∙ sym (ap (changedTo s) (stands (rules settings .point) (settings .dmiss) (settings .dconn) (s .clock + 0) (timedIn s) (omega arith)))
+    seconds (suc gap) s sized =
+        let there = clock-at (s .clock + gap) s (omega arith) in
+        let next : suc (at (s .clock + gap) s .clock) ≡ s .clock + suc gap = omega arith in
+        times-more nextSecond gap s
+        ∙ ap nextSecond (seconds gap s sized)
+        ∙ not-refused _ (at (s .clock + gap) s) (sizes-stay (s .clock + gap) s ∙ sized) (omega arith)
+        ∙ ap (λ (t : ℕ). at t (at (s .clock + gap) s)) next
+        ∙ at-at (s .clock + gap) (s .clock + suc gap) s (omega arith) (omega arith)
+
+    pub second-by-second : (gap : ℕ) (s : State) → badTables (s .tables) ≡ false
+        → times gap nextSecond s ≡ passed rules settings (s .clock + gap) s .state
+    second-by-second gap s sized = seconds gap s sized ∙ sym (not-refused (s .clock + gap) s sized (omega arith))
