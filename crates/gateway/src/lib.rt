@@ -99,7 +99,7 @@ struct Spot {
     place: Place,
 }
 
-// The two ends of a packet of ours.
+// The cell's end of a packet of ours.
 fn cell_of(header: Header, from_plant: bool) -> u32
     ensures { λ r. ⌜ r ≡ cellOf header «from_plant» ⌝ }
 {
@@ -110,6 +110,7 @@ fn cell_of(header: Header, from_plant: bool) -> u32
     }
 }
 
+// The plant's end of a packet of ours.
 fn plant_of(header: Header, from_plant: bool) -> u32
     ensures { λ r. ⌜ r ≡ plantOf header «from_plant» ⌝ }
 {
@@ -288,7 +289,7 @@ fn refusal_before_headers(
     first_refusal(set.is_bad(), bad_tables, lists, too_early)
 }
 
-// Judges a packet that comes at a time: answers what document 01 says of it, and keeps tables and clock.
+// Judges a packet that comes at a time, and brings tables and clock up to it.
 pub fn judge(
     set: Settings,
     cell: &[u8],
