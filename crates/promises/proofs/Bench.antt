@@ -9,7 +9,7 @@ use Rattle.places.specs.Places.{slotOf, placeOf}
 use Rattle.records.specs.Records.{minutePassed, agedBy}
 use Rattle.counts.specs.Counts.{larger, smaller, pointLess, decayedBy}
 use Rattle.tables.specs.Clock.{multiplesPassed, timePassed}
-use Rattle.rulings.specs.Verdicts.{fromTheCell, fromBlockedCell, verdictOf, recordAfter}
+use Rattle.verdicts.specs.Verdicts.{fromTheCell, fromBlockedCell, verdictOf, recordAfter}
 use Rattle.rulings.specs.Rulings.{countWritten, rulingOf}
 use Rattle.promises.specs.Bench.{zeros, table}
 

@@ -17,10 +17,10 @@ use Rattle.packet.specs.declared.Header.{Header}
 use Rattle.packet.specs.declared.kinds.Kind.{Kind}
 use Rattle.packet.specs.declared.kinds.Kind.the-variants.{Udp, Plain}
 use Rattle.rulings.specs.declared.Ruling.{Ruling}
-use Rattle.rulings.specs.declared.Verdict.the-variants.{CreditOfTwo}
+use Rattle.verdicts.specs.declared.Verdict.the-variants.{CreditOfTwo}
 use Rattle.rulings.specs.Rules.{document01}
-use Rattle.rulings.specs.Rulings.{countWritten, writtenOr, rulingOf}
-use Rattle.rulings.specs.Verdicts.{numberOf}
+use Rattle.rulings.specs.Rulings.{countWritten, countedBy, rulingOf}
+use Rattle.verdicts.specs.Verdicts.{numberOf}
 
 pub record Row : Type 0 where
   pub number : ℕ
@@ -84,7 +84,7 @@ table =
     -- The same at count 5: verdict 6, count 5
     row 8 (ruled Udp (marks false false) (pos 5)) (pos 6 ∷ pos 5 ∷ []) ∷
     -- Cmin -20, count -19, verdict 3: count -20
-    row 9 (writtenOr (minus 19) (countWritten (minus 20) 1 1 none CreditOfTwo (minus 19)) ∷ []) (minus 20 ∷ []) ∷
+    row 9 (countedBy (minus 19) (countWritten (minus 20) 1 1 none CreditOfTwo (minus 19)) .count ∷ []) (minus 20 ∷ []) ∷
     -- Dmiss 60, count 3: second 59 to 60 gives 2; 60 to 119 keeps 3; 0 to 600 gives 0. Count -4 stays
     row 10 (countLater (pos 3) 59 60 ++ (countLater (pos 3) 60 119 ++ (countLater (pos 3) 0 600 ++ countLater (minus 4) 0 600)))
     (pos 2 ∷ pos 3 ∷ pos 0 ∷ minus 4 ∷ []) ∷

@@ -1,3 +1,3 @@
--- What is proved of verdicts beyond the contracts.
+-- What is proved of rulings beyond the contracts.
 pub mod Steps
 pub mod Slips

@@ -7,7 +7,7 @@ use Rattle.rulings.specs.declared.answers.Replacement.{Replacement}
 use Rattle.rulings.specs.declared.answers.Replacement.the-variants.{None, Address}
 use Rattle.rulings.specs.declared.answers.Answer.{Answer}
 use Rattle.rulings.specs.declared.answers.Answer.the-variants.{Refused, NotOurs, Judged}
-use Rattle.rulings.specs.Verdicts.{numberOf}
+use Rattle.verdicts.specs.Verdicts.{numberOf}
 
 -- "The answer of a refusal is its number alone", and 0 stands for a call that is not refused
 abbrev pub refusalTold : Answer → ℕ

@@ -1,5 +1,4 @@
--- What a verdict is, and what it makes of record and count.
-pub mod Verdicts
-pub mod Answers
+-- What follows from a verdict, by the rules of a run, and what the gateway answers.
 pub mod Rules
 pub mod Rulings
+pub mod Answers

@@ -7,11 +7,12 @@ use lib.IntN.{ℤ, pos}
 use Rattle.packet.specs.declared.Header.{Header}
 use Rattle.records.specs.Records.{marksOf, isUnmarked}
 use Rattle.counts.specs.Counts.{isBlocked, loweredBy, raisedBy}
-use Rattle.rulings.specs.declared.Verdict.{Verdict}
-use Rattle.rulings.specs.declared.Verdict.the-variants.{Uncounted, CreditOfOne, CreditOfTwo, FreshContact, Hygiene, Blocked}
+use Rattle.verdicts.specs.declared.Verdict.{Verdict}
+use Rattle.verdicts.specs.declared.Verdict.the-variants.{Uncounted, CreditOfOne, CreditOfTwo, FreshContact, Hygiene, Blocked}
 use Rattle.rulings.specs.declared.Ruling.{Ruling}
+use Rattle.rulings.specs.declared.Counted.{Counted}
 use Rattle.rulings.specs.Rules.{Rules}
-use Rattle.rulings.specs.Verdicts.{verdictOf, recordAfter}
+use Rattle.verdicts.specs.Verdicts.{verdictOf, recordAfter}
 
 -- "The cell address's count becomes the larger of Cmin and count-1 for 2, the same with count-2 for 3, and count+1 for 4. Only these
 -- write an entry": the count that is written, if one is. A packet dropped as blocked writes what its attempt does, which under document
@@ -24,14 +25,10 @@ countWritten floor point weight attempted FreshContact count = some (raisedBy we
 countWritten floor point weight attempted Hygiene count = none
 countWritten floor point weight attempted Blocked count = attempted
 
-abbrev pub isWritten : Option ℤ → Bool
-isWritten none = false
-isWritten (some count) = true
-
--- the count that is written, or the one that stays
-abbrev pub writtenOr : ℤ → Option ℤ → ℤ
-writtenOr count none = count
-writtenOr count (some new) = new
+-- whether a count is written, and the one that the address then has
+abbrev pub countedBy : ℤ → Option ℤ → Counted
+countedBy count none = record { writes = false; count = count }
+countedBy count (some new) = record { writes = true; count = new }
 
 module _ (rules : Rules) (h : Header) (fromPlant : Bool) (byte : ℕ) (count : ℤ) where
   -- the verdict by the record and the count that the packet meets
@@ -47,6 +44,6 @@ module _ (rules : Rules) (h : Header) (fromPlant : Bool) (byte : ℕ) (count : �
       record {
         verdict = verdictBy;
         byte = recordAfter fromPlant (h .transport .kind) verdictBy byte;
-        writes = isWritten newCount;
-        count = writtenOr count newCount;
+        writes = countedBy count newCount .writes;
+        count = countedBy count newCount .count;
       }

@@ -1,5 +1,5 @@
 // What the gateway answers to a packet.
-use crate::Verdict;
+use verdicts::Verdict;
 
 // The address that lost its entry to the packet's.
 pub enum Replacement {

@@ -1,34 +1,14 @@
-// What a packet of ours gets: its verdict, and what that makes of its record and of its cell address's count. Nothing here touches a
-// table.
-ghost use mathlib.Core.Bool.{not, _||_};
-ghost use mathlib.Core.Path.{_≡_};
+// All that a packet of ours gets: its verdict, and what follows for its record and its cell address's count. Nothing here touches a table.
 ghost use mathlib.Core.Option.{none};
-ghost use Rattle.rulings.specs.Verdicts.{numberOf, isForwarded, isCounted, isClosing, isSynAck, isUdp, isOpening, unlessClosing, fromThePlant, fromTheCell, fromBlockedCell, verdictOf, marksAfter, recordAfter};
+ghost use mathlib.Core.Path.{_≡_};
 ghost use Rattle.rulings.specs.Rules.{document01};
-ghost use Rattle.rulings.specs.Rulings.{countWritten, writtenOr, rulingOf};
+ghost use Rattle.rulings.specs.Rulings.{countWritten, countedBy, rulingOf};
 
 pub mod answers;
 
 use packet::Header;
-use packet::kinds::Kind;
-use records::Marks;
 use settings::Settings;
-
-// The verdicts on a packet of ours, 1 to 6, by their words in document 01.
-pub enum Verdict {
-    // Forwarded, nothing counted.
-    Uncounted,
-    // Forwarded, credit of one.
-    CreditOfOne,
-    // Forwarded, credit of two.
-    CreditOfTwo,
-    // Forwarded, fresh contact.
-    FreshContact,
-    // Dropped, hygiene.
-    Hygiene,
-    // Dropped, blocked.
-    Blocked,
-}
+use verdicts::Verdict;
 
 // A verdict, and what follows from it: the packet's record, whether the cell address's entry is written, and its count.
 pub struct Ruling {
@@ -38,189 +18,41 @@ pub struct Ruling {
     pub count: i16,
 }
 
-// Document 01's number of a verdict.
-pub fn number(verdict: Verdict) -> u8
-    ensures { λ r. ⌜ r ≡ numberOf verdict ⌝ }
+// The count after a verdict, and whether it is written.
+struct Counted {
+    writes: bool,
+    count: i16,
+}
+
+// What a verdict makes of a count.
+fn count_after(verdict: Verdict, count: i16, floor: i16) -> Counted
+    ensures { λ r. ⌜ r ≡ countedBy count (countWritten floor 1 1 none verdict count) ⌝ }
 {
     match verdict {
-        Verdict::Uncounted => 1,
-        Verdict::CreditOfOne => 2,
-        Verdict::CreditOfTwo => 3,
-        Verdict::FreshContact => 4,
-        Verdict::Hygiene => 5,
-        Verdict::Blocked => 6,
-    }
-}
-
-// Whether a verdict drops the packet.
-fn is_dropped(verdict: Verdict) -> bool
-    ensures { λ r. ⌜ r ≡ not (isForwarded verdict) ⌝ }
-{
-    match verdict {
-        Verdict::Uncounted => false,
-        Verdict::CreditOfOne => false,
-        Verdict::CreditOfTwo => false,
-        Verdict::FreshContact => false,
-        Verdict::Hygiene => true,
-        Verdict::Blocked => true,
-    }
-}
-
-// Whether something is counted by a verdict: a credit, or a fresh contact.
-fn is_counted(verdict: Verdict) -> bool
-    ensures { λ r. ⌜ r ≡ isCounted verdict ⌝ }
-{
-    match verdict {
-        Verdict::Uncounted => false,
-        Verdict::CreditOfOne => true,
-        Verdict::CreditOfTwo => true,
-        Verdict::FreshContact => true,
-        Verdict::Hygiene => false,
-        Verdict::Blocked => false,
-    }
-}
-
-// Whether a packet is a closing one.
-fn is_closing(kind: Kind) -> bool
-    ensures { λ r. ⌜ r ≡ isClosing kind ⌝ }
-{
-    match kind {
-        Kind::Udp => false,
-        Kind::Opening => false,
-        Kind::SynAck => false,
-        Kind::Closing => true,
-        Kind::Plain => false,
-    }
-}
-
-// Whether a packet is closing or SYN+ACK, which hygiene drops where the cell sends it on a record with neither mark.
-fn is_closing_or_syn_ack(kind: Kind) -> bool
-    ensures { λ r. ⌜ r ≡ (isClosing kind || isSynAck kind) ⌝ }
-{
-    match kind {
-        Kind::Udp => false,
-        Kind::Opening => false,
-        Kind::SynAck => true,
-        Kind::Closing => true,
-        Kind::Plain => false,
-    }
-}
-
-// Whether a packet is UDP or opening, which a blocked cell address gets through on no record.
-fn is_udp_or_opening(kind: Kind) -> bool
-    ensures { λ r. ⌜ r ≡ (isUdp kind || isOpening kind) ⌝ }
-{
-    match kind {
-        Kind::Udp => true,
-        Kind::Opening => true,
-        Kind::SynAck => false,
-        Kind::Closing => false,
-        Kind::Plain => false,
-    }
-}
-
-// A packet on a record with only the other mark: closing earns nothing, and every other kind the credit.
-fn unless_closing(kind: Kind, credit: Verdict) -> Verdict
-    ensures { λ r. ⌜ r ≡ unlessClosing kind credit ⌝ }
-{
-    if is_closing(kind) {
-        Verdict::Uncounted
-    } else {
-        credit
-    }
-}
-
-// The verdict on a packet from the plant.
-fn from_the_plant(own: bool, other: bool, kind: Kind) -> Verdict
-    ensures { λ r. ⌜ r ≡ fromThePlant own other kind ⌝ }
-{
-    if own {
-        return Verdict::Uncounted;
-    }
-    if other {
-        return unless_closing(kind, Verdict::CreditOfTwo);
-    }
-    Verdict::Uncounted
-}
-
-// The verdict on a packet from a cell address that is not blocked.
-fn from_the_cell(own: bool, other: bool, kind: Kind) -> Verdict
-    ensures { λ r. ⌜ r ≡ fromTheCell own other kind ⌝ }
-{
-    if own {
-        return Verdict::Uncounted;
-    }
-    if other {
-        return unless_closing(kind, Verdict::CreditOfOne);
-    }
-    if is_closing_or_syn_ack(kind) {
-        return Verdict::Hygiene;
-    }
-    Verdict::FreshContact
-}
-
-// The verdict on a packet from a cell address that is blocked.
-fn from_blocked_cell(own: bool, other: bool, kind: Kind) -> Verdict
-    ensures { λ r. ⌜ r ≡ fromBlockedCell own other kind ⌝ }
-{
-    if !other {
-        return Verdict::Blocked;
-    }
-    if is_udp_or_opening(kind) {
-        return Verdict::Blocked;
-    }
-    if own | is_closing(kind) {
-        return Verdict::Uncounted;
-    }
-    Verdict::CreditOfOne
-}
-
-// The verdict on a packet of ours.
-pub fn verdict_of(from_plant: bool, blocked: bool, marks: Marks, kind: Kind) -> Verdict
-    ensures { λ r. ⌜ r ≡ verdictOf «from_plant» blocked marks kind ⌝ }
-{
-    if from_plant {
-        return from_the_plant(marks.plant, marks.cell, kind);
-    }
-    if blocked {
-        return from_blocked_cell(marks.cell, marks.plant, kind);
-    }
-    from_the_cell(marks.cell, marks.plant, kind)
-}
-
-// The marks, with the packet's own set where it is to be.
-fn marks_after(from_plant: bool, marks: Marks, sets: bool) -> Marks
-    ensures { λ r. ⌜ r ≡ marksAfter «from_plant» marks sets ⌝ }
-{
-    Marks {
-        plant: marks.plant | (sets & from_plant),
-        cell: marks.cell | (sets & !from_plant),
-    }
-}
-
-// The packet's record after its verdict. A dropped packet leaves it, age and all.
-fn record_after(from_plant: bool, kind: Kind, verdict: Verdict, byte: u8) -> u8
-    ensures { λ r. ⌜ r ≡ recordAfter «from_plant» kind verdict byte ⌝ }
-{
-    let marks = records::marks_of(byte);
-    let first = from_plant & !(marks.plant | marks.cell);
-    if is_dropped(verdict) | (first & is_closing(kind)) {
-        return byte;
-    }
-    records::renewed(marks_after(from_plant, marks, is_counted(verdict) | first))
-}
-
-// The count after a verdict.
-fn count_after(verdict: Verdict, count: i16, floor: i16) -> i16
-    ensures { λ r. ⌜ r ≡ writtenOr count (countWritten floor 1 1 none verdict count) ⌝ }
-{
-    match verdict {
-        Verdict::Uncounted => count,
-        Verdict::CreditOfOne => counts::lowered(count, 1, floor),
-        Verdict::CreditOfTwo => counts::lowered(count, 2, floor),
-        Verdict::FreshContact => counts::raised(count, 1, 32767),
-        Verdict::Hygiene => count,
-        Verdict::Blocked => count,
+        Verdict::Uncounted => Counted {
+            writes: false,
+            count,
+        },
+        Verdict::CreditOfOne => Counted {
+            writes: true,
+            count: counts::lowered(count, 1, floor),
+        },
+        Verdict::CreditOfTwo => Counted {
+            writes: true,
+            count: counts::lowered(count, 2, floor),
+        },
+        Verdict::FreshContact => Counted {
+            writes: true,
+            count: counts::raised(count, 1, 32767),
+        },
+        Verdict::Hygiene => Counted {
+            writes: false,
+            count,
+        },
+        Verdict::Blocked => Counted {
+            writes: false,
+            count,
+        },
     }
 }
 
@@ -231,11 +63,12 @@ pub fn ruling_of(set: Settings, header: Header, from_plant: bool, byte: u8, coun
     let transport = header.transport;
     let kind = transport.kind;
     let blocked = counts::is_blocked(count, set.threshold);
-    let verdict = verdict_of(from_plant, blocked, records::marks_of(byte), kind);
+    let verdict = verdicts::verdict_of(from_plant, blocked, records::marks_of(byte), kind);
+    let after = count_after(verdict, count, set.floor);
     Ruling {
         verdict,
-        byte: record_after(from_plant, kind, verdict, byte),
-        writes: is_counted(verdict),
-        count: count_after(verdict, count, set.floor),
+        byte: verdicts::record_after(from_plant, kind, verdict, byte),
+        writes: after.writes,
+        count: after.count,
     }
 }

@@ -7,11 +7,11 @@ use Prim.Native.Nat.{ℕ, _<_}
 use native.Mathlib.Omega.{arith}
 use lib.ListN.{length, getD}
 use lib.Seq.{getD-set-same, getD-set-other}
-use Rattle.rulings.specs.declared.Verdict.{Verdict}
-use Rattle.rulings.specs.declared.Verdict.the-variants.{Uncounted, CreditOfOne, CreditOfTwo, FreshContact, Hygiene, Blocked}
+use Rattle.verdicts.specs.declared.Verdict.{Verdict}
+use Rattle.verdicts.specs.declared.Verdict.the-variants.{Uncounted, CreditOfOne, CreditOfTwo, FreshContact, Hygiene, Blocked}
 use Rattle.rulings.specs.declared.answers.Answer.the-variants.{Refused}
 use Rattle.rulings.specs.Answers.{verdictTold}
-use Rattle.rulings.specs.Verdicts.{numberOf}
+use Rattle.verdicts.specs.Verdicts.{numberOf}
 use Rattle.tally.specs.declared.Tally.{Tally}
 use Rattle.tally.specs.Tally.{oneMore, tallied}
 

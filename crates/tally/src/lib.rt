@@ -44,7 +44,7 @@ impl Tally {
         match answer {
             Answer::Refused(_) => self,
             Answer::NotOurs => self.with_verdict(0),
-            Answer::Judged { verdict, .. } => self.with_verdict(rulings::number(verdict)),
+            Answer::Judged { verdict, .. } => self.with_verdict(verdicts::number(verdict)),
         }
     }
 }

@@ -16,14 +16,11 @@ marks-of-requires c κs = search needs
 verdict-of-requires : tie.Need-verdict-of-requires
 verdict-of-requires c κs = search needs
 
-record-after-requires : tie.Need-record-after-requires
-record-after-requires c κs = search needs
-
-is-counted-requires : tie.Need-is-counted-requires
-is-counted-requires c κs = search needs
-
 count-after-requires : tie.Need-count-after-requires
 count-after-requires c κs = search needs
+
+record-after-requires : tie.Need-record-after-requires
+record-after-requires c κs = search needs
 
 returns : tie.Need-returns
 returns c =
@@ -31,9 +28,10 @@ returns c =
     let v = k .before .before in
     let s = v .before .before .before .before in
     let count = toZ-ofZ w16 _ (s .fits .count) in
-    rw (toZ-ofZ w16 _ (record { sfits = c .count-after .ok }))
-    (ruled (s .args .set) (s .args .header) (s .args .from-plant) (s .args .byte) (s .args .count) (rw count at (v .before .before .is-blocked .ensures)) (v .before .marks-of .ensures) (v .verdict-of .ensures)
-    (k .before .record-after .ensures) (k .is-counted .ensures) (rw (count, toZ-ofZ w16 _ (record { sfits = c .before .struct-told .given .1 .0 .1 })) at (c .count-after .ensures)))
+    rw (toZ-ofZ w16 _ (record { sfits = c .struct-told2 .given .1 .0 .1 }))
+    (ruled (s .args .set) (s .args .header) (s .args .from-plant) (s .args .byte) (s .args .count)
+    (rw count at (v .before .before .is-blocked .ensures)) (v .before .marks-of .ensures) (v .verdict-of .ensures) (c .before .record-after .ensures)
+    (rw (count, toZ-ofZ w16 _ (record { sfits = k .before .struct-told .given .1 .0 .1 })) at (k .count-after .ensures)))
 
 pub ruling-of-spec : {M : Type 1} → statement M
 ruling-of-spec =
@@ -42,7 +40,6 @@ ruling-of-spec =
     is-blocked-requires
     marks-of-requires
     verdict-of-requires
-    record-after-requires
-    is-counted-requires
     count-after-requires
+    record-after-requires
     returns)

@@ -1,10 +1,10 @@
--- `rulings::from_blocked_cell` meets its contract: each test chooses a branch of the definition.
+-- `verdicts::from_blocked_cell` meets its contract: each test chooses a branch of the definition.
 -- Assumes nothing.
 use mathlib.Core.Path.{sym, _∙_}
 use borrow.Author.Needs.{needs}
-use Rattle.rulings.specs.Verdicts.{fromBlockedCell}
-use Rattle.rulings.proofs.from_blocked_cell.Statement.{statement}
-use Rattle.rulings.proofs.from_blocked_cell.Tie as tie
+use Rattle.verdicts.specs.Verdicts.{fromBlockedCell}
+use Rattle.verdicts.proofs.from_blocked_cell.Statement.{statement}
+use Rattle.verdicts.proofs.from_blocked_cell.Tie as tie
 
 returns : tie.Need-returns
 unfolding fromBlockedCell

@@ -1,9 +1,9 @@
--- `rulings::from_the_plant` meets its contract: the test of each mark chooses a branch of the definition.
+-- `verdicts::from_the_plant` meets its contract: the test of each mark chooses a branch of the definition.
 -- Assumes nothing.
 use borrow.Author.Needs.{needs}
-use Rattle.rulings.specs.Verdicts.{fromThePlant}
-use Rattle.rulings.proofs.from_the_plant.Statement.{statement}
-use Rattle.rulings.proofs.from_the_plant.Tie as tie
+use Rattle.verdicts.specs.Verdicts.{fromThePlant}
+use Rattle.verdicts.proofs.from_the_plant.Statement.{statement}
+use Rattle.verdicts.proofs.from_the_plant.Tie as tie
 
 returns : tie.Need-returns
 unfolding fromThePlant

@@ -1,9 +1,9 @@
--- `rulings::verdict_of` meets its contract: the definition of the packet's direction and of its cell address's state.
+-- `verdicts::verdict_of` meets its contract: the definition of the packet's direction and of its cell address's state.
 -- Assumes nothing.
 use borrow.Author.Needs.{needs}
-use Rattle.rulings.specs.Verdicts.{verdictOf}
-use Rattle.rulings.proofs.verdict_of.Statement.{statement}
-use Rattle.rulings.proofs.verdict_of.Tie as tie
+use Rattle.verdicts.specs.Verdicts.{verdictOf}
+use Rattle.verdicts.proofs.verdict_of.Statement.{statement}
+use Rattle.verdicts.proofs.verdict_of.Tie as tie
 
 from-the-plant-requires : tie.Need-from-the-plant-requires
 from-the-plant-requires c κs = search needs

@@ -1,9 +1,9 @@
--- `rulings::record_after` meets its contract: the test of what leaves a record chooses a branch of the definition.
+-- `verdicts::record_after` meets its contract: the test of what leaves a record chooses a branch of the definition.
 -- Assumes nothing.
 use borrow.Author.Needs.{needs}
-use Rattle.rulings.proofs.Steps.{left-alone, renewed-as}
-use Rattle.rulings.proofs.record_after.Statement.{statement}
-use Rattle.rulings.proofs.record_after.Tie as tie
+use Rattle.verdicts.proofs.Records.{left-alone, renewed-as}
+use Rattle.verdicts.proofs.record_after.Statement.{statement}
+use Rattle.verdicts.proofs.record_after.Tie as tie
 
 marks-of-requires : tie.Need-marks-of-requires
 marks-of-requires c κs = search needs

@@ -6,8 +6,8 @@ use Rattle.packet.specs.declared.kinds.Kind.{Kind}
 use Rattle.packet.specs.declared.kinds.Kind.the-variants.{Udp, Opening, SynAck, Closing, Plain}
 use Rattle.records.specs.declared.Marks.{Marks}
 use Rattle.records.specs.Records.{marksOf, recordOf, isUnmarked}
-use Rattle.rulings.specs.declared.Verdict.{Verdict}
-use Rattle.rulings.specs.declared.Verdict.the-variants.{Uncounted, CreditOfOne, CreditOfTwo, FreshContact, Hygiene, Blocked}
+use Rattle.verdicts.specs.declared.Verdict.{Verdict}
+use Rattle.verdicts.specs.declared.Verdict.the-variants.{Uncounted, CreditOfOne, CreditOfTwo, FreshContact, Hygiene, Blocked}
 
 -- "1 forwarded, nothing counted. 2 forwarded, credit of one. 3 forwarded, credit of two. 4 forwarded, fresh contact. 5 dropped,
 -- hygiene. 6 dropped, blocked."
