@@ -1,6 +1,6 @@
 -- Demand 2, of the calls: passing a gap by one call leaves the state that a call for each of its seconds leaves.
 -- Assumes nothing.
-use mathlib.Core.Bool.{false}
+use mathlib.Core.Bool.{Bool, false}
 use mathlib.Core.Path.{_≡_, sym, ap, _∙_}
 use Prim.Native.Nat.{ℕ, zero, suc, _+_, _≤_}
 use native.Mathlib.Omega.{arith}
@@ -14,7 +14,8 @@ use Rattle.tables.specs.Sizes.{badSizes}
 use Rattle.tables.specs.Clock.{Timed, timedOf}
 use Rattle.tables.proofs.Jumps.{clock-is, records-stay, counts-stay, stands, by-way-of}
 use Rattle.rulings.specs.Rules.{Rules}
-use Rattle.gateway.specs.Calls.{State, stateOf, badTables, onward, timeRefusal, passed}
+use Rattle.refusals.specs.Refusals.{timeRefusal}
+use Rattle.gateway.specs.Calls.{State, stateOf, onward, passed}
 
 -- what time changes of a state, and a state with that changed
 abbrev timedIn : State → Timed
@@ -23,12 +24,15 @@ timedIn s = timedOf (s .tables .records) (s .tables .counts) (s .clock)
 abbrev changedTo : State → Timed → State
 changedTo s m = stateOf (m .records) (s .tables .tags) (m .counts) (m .clock)
 
+abbrev pub badTables : State → Bool
+badTables s = badSizes (length (s .tables .records)) (length (s .tables .tags)) (length (s .tables .counts))
+
 module _ (rules : Settings → Rules) (settings : Settings) where
   abbrev at : ℕ → State → State
   at time s = onward (rules settings .point) settings time s
 
   -- the sizes stay
-  sizes-stay : (time : ℕ) (s : State) → badTables (at time s .tables) ≡ badTables (s .tables)
+  sizes-stay : (time : ℕ) (s : State) → badTables (at time s) ≡ badTables s
   sizes-stay time s = λ i. badSizes
       (records-stay (rules settings .point) (settings .dmiss) (settings .dconn) time (timedIn s) i)
       (length (s .tables .tags))
@@ -45,7 +49,7 @@ module _ (rules : Settings → Rules) (settings : Settings) where
 
   module _ (good : badSettings settings ≡ false) where
     -- a call that is not refused
-    pub not-refused : (time : ℕ) (s : State) → badTables (s .tables) ≡ false → s .clock ≤ time → passed rules settings time s .state ≡ at time s
+    pub not-refused : (time : ℕ) (s : State) → badTables s ≡ false → s .clock ≤ time → passed rules settings time s .state ≡ at time s
     unfolding passed timeRefusal
     not-refused time s sized h = rw (good, sized, le-ltb _ _ h)
 
@@ -53,7 +57,7 @@ module _ (rules : Settings → Rules) (settings : Settings) where
     abbrev pub nextSecond : State → State
     nextSecond s = passed rules settings (suc (s .clock)) s .state
 
-    seconds : (gap : ℕ) (s : State) → badTables (s .tables) ≡ false → times gap nextSecond s ≡ at (s .clock + gap) s
+    seconds : (gap : ℕ) (s : State) → badTables s ≡ false → times gap nextSecond s ≡ at (s .clock + gap) s
     seconds zero s sized =
         times-none nextSecond s
         ∙ sym (ap (changedTo s) (stands (rules settings .point) (settings .dmiss) (settings .dconn) (s .clock + 0) (timedIn s) (omega arith)))
@@ -66,6 +70,6 @@ module _ (rules : Settings → Rules) (settings : Settings) where
         ∙ ap (λ (t : ℕ). at t (at (s .clock + gap) s)) next
         ∙ at-at (s .clock + gap) (s .clock + suc gap) s (omega arith) (omega arith)
 
-    pub second-by-second : (gap : ℕ) (s : State) → badTables (s .tables) ≡ false
+    pub second-by-second : (gap : ℕ) (s : State) → badTables s ≡ false
         → times gap nextSecond s ≡ passed rules settings (s .clock + gap) s .state
     second-by-second gap s sized = seconds gap s sized ∙ sym (not-refused (s .clock + gap) s sized (omega arith))

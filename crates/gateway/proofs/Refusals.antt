@@ -1,10 +1,8 @@
--- What a refusal is: the number of the first test that holds, told alone, with tables and clock kept. For every input of every call.
+-- A refused call tells its number alone, and keeps tables and clock. For every input of every call.
 -- Assumes nothing.
-use mathlib.Core.Bool.{Bool, true, false}
-use mathlib.Core.List.{List, [], _∷_, _++_}
-use mathlib.Core.Path.{_≡_, refl, sym, ap, _∙_}
+use mathlib.Core.List.{List}
+use mathlib.Core.Path.{_≡_, refl}
 use Prim.Native.Nat.{ℕ, zero, suc}
-use Rattle.laws.proofs.Tests.{cond-at}
 use Rattle.settings.specs.declared.Settings.{Settings}
 use Rattle.packet.specs.declared.Header.{Header}
 use Rattle.sides.specs.declared.Direction.{Direction}
@@ -13,41 +11,7 @@ use Rattle.tables.specs.Tables.{Tables}
 use Rattle.rulings.specs.Answers.{refusalTold}
 use Rattle.rulings.specs.Rules.{Rules}
 use Rattle.gateway.specs.Packets.{ours, byDirection}
-use Rattle.gateway.specs.Calls.{State, After, firstRefusal, unlessRefused, refusalIn, startRefusal, started, timeRefusal, passed, packetRefusal, judged}
-
--- ---- the first test that holds
--- none of these conditions holds
-abbrev pub NoneOf : List (ℕ × Bool) → Type 0
-NoneOf [] = Unit {0}
-NoneOf (test ∷ tests) = (test .1 ≡ false) × NoneOf tests
-
--- the tests are those before it, of which none holds, then it, which does, and others
-pub record First (number : ℕ) (tests : List (ℕ × Bool)) : Type 0 where
-  pub before : List (ℕ × Bool)
-  pub after : List (ℕ × Bool)
-  pub split : tests ≡ before ++ ((number, true) ∷ after)
-  pub none-before : NoneOf before
-
-pub first-given : (tests : List (ℕ × Bool)) (number : ℕ) → firstRefusal tests ≡ number → (number ≡ 0 → ⊥) → First number tests
-first-given [] number e ne = absurd (ne (sym e))
-first-given (test ∷ tests) number e ne = go (test .1) refl (first-given tests number)
-  where
-    go : (t : Bool) → test .1 ≡ t → (firstRefusal tests ≡ number → (number ≡ 0 → ⊥) → First number tests) → First number (test ∷ tests)
-    go true q rest =
-        let is : test .0 ≡ number = sym (cond-at _ _ q) ∙ e in
-        record { before = []; after = tests; split = λ i. (is i, q i) ∷ tests; none-before = tt }
-    go false q rest =
-        let r = rest (sym (cond-at _ _ q) ∙ e) ne in
-        record {
-          before = test ∷ r .before;
-          after = r .after;
-          split = ap (λ (l : List (ℕ × Bool)). test ∷ l) (r .split);
-          none-before = (q, r .none-before);
-        }
-
-pub first-is : (before after : List (ℕ × Bool)) (number : ℕ) → NoneOf before → firstRefusal (before ++ ((number, true) ∷ after)) ≡ number
-first-is [] after number none = refl
-first-is (test ∷ before) after number none = cond-at _ _ (none .0) ∙ first-is before after number (none .1)
+use Rattle.gateway.specs.Calls.{State, After, unlessRefused, refusalIn, startRefusalAt, started, timeRefusalAt, passed, packetRefusal, judged}
 
 -- ---- what a refused call tells and leaves
 module _ {A : Type 0} (tell : A → ℕ) (refused : ℕ → A) (before : State) (after : After A) where
@@ -60,22 +24,22 @@ module _ {A : Type 0} (tell : A → ℕ) (refused : ℕ → A) (before : State) 
   kept (suc n) ne = refl
 
 module _ (settings : Settings) (time : ℕ) (before : State) where
-  pub start-told : refusalIn (started settings time before .answer) ≡ startRefusal settings before
+  pub start-told : refusalIn (started settings time before .answer) ≡ startRefusalAt settings before
   unfolding started
-  start-told = told refusalIn _ before _ (λ n. refl) refl (startRefusal settings before)
+  start-told = told refusalIn _ before _ (λ n. refl) refl (startRefusalAt settings before)
 
-  pub start-kept : (startRefusal settings before ≡ 0 → ⊥) → started settings time before .state ≡ before
+  pub start-kept : (startRefusalAt settings before ≡ 0 → ⊥) → started settings time before .state ≡ before
   unfolding started
-  start-kept = kept refusalIn _ before _ (startRefusal settings before)
+  start-kept = kept refusalIn _ before _ (startRefusalAt settings before)
 
   module _ (rules : Settings → Rules) where
-    pub time-told : refusalIn (passed rules settings time before .answer) ≡ timeRefusal settings time before
+    pub time-told : refusalIn (passed rules settings time before .answer) ≡ timeRefusalAt settings time before
     unfolding passed
-    time-told = told refusalIn _ before _ (λ n. refl) refl (timeRefusal settings time before)
+    time-told = told refusalIn _ before _ (λ n. refl) refl (timeRefusalAt settings time before)
 
-    pub time-kept : (timeRefusal settings time before ≡ 0 → ⊥) → passed rules settings time before .state ≡ before
+    pub time-kept : (timeRefusalAt settings time before ≡ 0 → ⊥) → passed rules settings time before .state ≡ before
     unfolding passed
-    time-kept = kept refusalIn _ before _ (timeRefusal settings time before)
+    time-kept = kept refusalIn _ before _ (timeRefusalAt settings time before)
 
     -- a packet that is accepted is told as no refusal
     not-told : (h : Header) (direction : Direction) (tables : Tables) → refusalTold (byDirection rules settings h direction tables .answer) ≡ 0

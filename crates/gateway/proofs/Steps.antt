@@ -1,23 +1,20 @@
 -- The calls' steps, one after the other, come to what the definitions say.
 -- Assumes nothing.
-use mathlib.Core.Bool.{Bool, true, false, _||_}
-use mathlib.Core.List.{List, [], _∷_}
+use mathlib.Core.Bool.{Bool, true, false}
+use mathlib.Core.List.{List}
 use mathlib.Core.Path.{_≡_, refl, sym, ap, _∙_}
 use Prim.Native.Nat.{ℕ, zero, suc, _^_, _<_, _≤_}
 use native.Mathlib.Omega.{arith}
-use lib.Dec.{ltb}
 use lib.IntN.{ℤ}
 use lib.ListN.{length, set}
 use lib.Pow.{pow-mono, pow-pos}
 use Rattle.laws.proofs.Tests.{true-is-not-false}
 use Rattle.settings.specs.declared.Settings.{Settings}
-use Rattle.settings.specs.Settings.{badSettings}
 use Rattle.packet.specs.declared.Header.{Header}
 use Rattle.packet.specs.declared.Reading.{Reading}
 use Rattle.packet.specs.declared.Reading.the-variants.{Refused as Unread, Packet}
 use Rattle.packet.specs.Header.{headerRefusal, headerOf, answered, readOf, refusalOf}
 use Rattle.sides.specs.declared.Direction.{Direction}
-use Rattle.sides.specs.Lists.{badList}
 use Rattle.places.proofs.Places.{slot-lt}
 use Rattle.entries.specs.declared.Replaced.{Replaced}
 use Rattle.entries.specs.Entries.{Written, writtenOf}
@@ -30,27 +27,12 @@ use Rattle.rulings.specs.declared.answers.Answer.{Answer}
 use Rattle.rulings.specs.declared.answers.Answer.the-variants.{Refused, Judged}
 use Rattle.rulings.specs.Rules.{Rules, document01}
 use Rattle.tables.specs.Tables.{Tables, tablesOf}
+use Rattle.refusals.specs.Refusals.{earlyRefusal}
 use Rattle.gateway.specs.declared.Spot.{Spot}
 use Rattle.gateway.specs.Packets.{Outcome, outcomeOf, replacementOf, entered, spotOf, rulingAt, settled, ours, directionIn, byDirection}
-use Rattle.gateway.specs.Calls.{State, After, firstRefusal, badTables, orElse, unlessRefused, packetRefusal, accepted, judged}
+use Rattle.gateway.specs.Calls.{State, After, orElse, unlessRefused, accepted, judged}
 
 -- ---- refusals
--- the first of the numbers 1 to 4
-abbrev pub four : Bool → Bool → Bool → Bool → ℕ
-four a b c d = firstRefusal ((1, a) ∷ (2, b) ∷ (3, c) ∷ (4, d) ∷ [])
-
--- the number by the tests of settings and sizes that the code made
-pub number-is : (lists time : Bool) {a b a′ b′ : Bool} {n : ℕ} → n ≡ four a b lists time → a ≡ a′ → b ≡ b′ → n ≡ four a′ b′ lists time
-number-is lists time e p q = e ∙ (λ i. four (p i) (q i) lists time)
-
--- where it is 0 every test was false
-pub each-passed : (a b c d : Bool) → four a b c d ≡ 0 → (a ≡ false) × (b ≡ false) × (c ≡ false) × (d ≡ false)
-each-passed true b c d e = absurd (omega arith)
-each-passed false true c d e = absurd (omega arith)
-each-passed false false true d e = absurd (omega arith)
-each-passed false false false true e = absurd (omega arith)
-each-passed false false false false e = (refl, refl, refl, refl)
-
 module _ {A : Type 0} (refused : ℕ → A) (before : State) (after : After A) where
   -- a number that is not 0 is the answer, and the state stays
   pub refused-by : {n : ℕ} (number : ℕ) → n ≡ number → (n ≡ 0 → ⊥) → record { answer = refused n; state = before } ≡ unlessRefused refused number before after
@@ -138,18 +120,19 @@ first-of-two (suc m) k e ne = e
 
 module _ (rules : Settings → Rules) (settings : Settings) (cell plant : List ℕ) (time : ℕ) (bytes : List ℕ) (before : State) where
   abbrev first : ℕ
-  first = four (badSettings settings) (badTables (before .tables)) (badList cell || badList plant) (ltb time (before .clock))
+  first =
+      earlyRefusal settings (length (before .tables .records)) (length (before .tables .tags)) (length (before .tables .counts)) cell plant (before .clock) time
 
   abbrev after : After Answer
   after = accepted rules settings (headerOf bytes) (directionIn cell plant (headerOf bytes)) time before
 
   pub refused-first : {n : ℕ} → n ≡ first → (n ≡ 0 → ⊥) → record { answer = Refused n; state = before } ≡ judged rules settings cell plant time bytes before
-  unfolding judged packetRefusal
+  unfolding judged
   refused-first e ne = refused-by Refused before after _ (first-of-two first (headerRefusal bytes) e ne) ne
 
   pub refused-reading : {n : ℕ} {reading : Reading} → first ≡ 0 → reading ≡ readOf bytes → reading ≡ Unread n
       → record { answer = Refused n; state = before } ≡ judged rules settings cell plant time bytes before
-  unfolding judged packetRefusal readOf
+  unfolding judged readOf
   refused-reading {n} z r e =
       let u = unread (headerRefusal bytes) (headerOf bytes) n (sym r ∙ e) in
       refused-by Refused before after _ (or-else first z (u .0)) (u .1)
@@ -157,7 +140,7 @@ module _ (rules : Settings → Rules) (settings : Settings) (cell plant : List �
   pub judged-as : {h : Header} {reading : Reading} {direction : Direction} {left : After Answer} → first ≡ 0 → reading ≡ readOf bytes → reading ≡ Packet h
       → direction ≡ directionIn cell plant h → left ≡ accepted rules settings h direction time before
       → left ≡ judged rules settings cell plant time bytes before
-  unfolding judged packetRefusal readOf
+  unfolding judged readOf
   judged-as {h} z r e d l =
       let u = was-read (headerRefusal bytes) (headerOf bytes) h (sym r ∙ e) in
       l ∙ ap (λ (x : Direction). accepted rules settings h x time before) d

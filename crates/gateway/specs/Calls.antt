@@ -1,23 +1,19 @@
 -- Document 01, "Refusal numbers" as the calls give them, and the three calls: a cold start, a time alone, a packet.
 -- Assumes nothing.
-use mathlib.Core.Bool.{Bool, _||_, cond}
-use mathlib.Core.List.{List, [], _∷_}
+use mathlib.Core.List.{List}
 use Prim.Native.Nat.{ℕ, zero, suc}
-use lib.Dec.{ltb}
 use lib.IntN.{ℤ}
 use lib.ListN.{length}
 use Rattle.settings.specs.declared.Settings.{Settings}
-use Rattle.settings.specs.Settings.{badSettings}
 use Rattle.sides.specs.declared.Direction.{Direction}
-use Rattle.sides.specs.Lists.{badList}
 use Rattle.packet.specs.declared.Header.{Header}
 use Rattle.packet.specs.Header.{headerRefusal, headerOf}
 use Rattle.tables.specs.Tables.{Tables, tablesOf}
-use Rattle.tables.specs.Sizes.{badSizes}
 use Rattle.tables.specs.Clock.{Timed, timedOf, timePassed}
 use Rattle.rulings.specs.declared.answers.Answer.{Answer}
 use Rattle.rulings.specs.declared.answers.Answer.the-variants as answer
 use Rattle.rulings.specs.Rules.{Rules}
+use Rattle.refusals.specs.Refusals.{startRefusal, timeRefusal, earlyRefusal}
 use Rattle.cold.specs.Cold.{coldTables}
 use Rattle.gateway.specs.declared.Reply.{Reply}
 use Rattle.gateway.specs.declared.Reply.the-variants.{Refused, Done}
@@ -40,18 +36,10 @@ abbrev pub afterOf : {A : Type 0} → A → List ℕ → List ℕ → List ℤ �
 afterOf answer records tags counts clock = record { answer = answer; state = stateOf records tags counts clock }
 
 -- ---- refusals
--- A call's tests in their order, each a refusal's number and whether its condition holds: the number of the first that holds, or 0.
-abbrev pub firstRefusal : List (ℕ × Bool) → ℕ
-firstRefusal [] = 0
-firstRefusal (test ∷ tests) = cond (test .1) (test .0) (firstRefusal tests)
-
 -- a number, or where it is 0 another
 abbrev pub orElse : ℕ → ℕ → ℕ
 orElse zero other = other
 orElse (suc n) other = suc n
-
-abbrev pub badTables : Tables → Bool
-badTables tables = badSizes (length (tables .records)) (length (tables .tags)) (length (tables .counts))
 
 -- "All caller memory keeps its contents."
 abbrev pub unlessRefused : {A : Type 0} → (ℕ → A) → ℕ → State → After A → After A
@@ -63,10 +51,10 @@ abbrev pub refusalIn : Reply → ℕ
 refusalIn (Refused number) = number
 refusalIn Done = 0
 
--- "A call tests in rising number the conditions for which it has an input"
--- ---- a cold start: "is refused only by 1 and 2"
-unfoldable pub startRefusal : Settings → State → ℕ
-startRefusal settings before = firstRefusal ((1, badSettings settings) ∷ (2, badTables (before .tables)) ∷ [])
+-- ---- a cold start
+abbrev pub startRefusalAt : Settings → State → ℕ
+startRefusalAt settings before =
+    startRefusal settings (length (before .tables .records)) (length (before .tables .tags)) (length (before .tables .counts))
 
 -- it "sets the clock"
 abbrev pub coldState : ℕ → State → State
@@ -74,13 +62,12 @@ coldState time before = record { tables = coldTables (before .tables); clock = t
 
 unfoldable pub started : Settings → ℕ → State → After Reply
 started settings time before =
-    unlessRefused Refused (startRefusal settings before) before (record { answer = Done; state = coldState time before })
+    unlessRefused Refused (startRefusalAt settings before) before (record { answer = Done; state = coldState time before })
 
 -- ---- a time alone
--- 4: "the time is before the gateway's clock"
-unfoldable pub timeRefusal : Settings → ℕ → State → ℕ
-timeRefusal settings time before =
-    firstRefusal ((1, badSettings settings) ∷ (2, badTables (before .tables)) ∷ (4, ltb time (before .clock)) ∷ [])
+abbrev pub timeRefusalAt : Settings → ℕ → State → ℕ
+timeRefusalAt settings time before =
+    timeRefusal settings (length (before .tables .records)) (length (before .tables .tags)) (length (before .tables .counts)) (before .clock) time
 
 -- the state at a new time, by the size of a point: what the clock does to records and counts. It leaves the tags.
 abbrev pub onward : ℕ → Settings → ℕ → State → State
@@ -92,19 +79,15 @@ onward point settings time before = stateOf (timed .records) (before .tables .ta
 
 unfoldable pub passed : (Settings → Rules) → Settings → ℕ → State → After Reply
 passed rules settings time before =
-    unlessRefused Refused (timeRefusal settings time before) before
+    unlessRefused Refused (timeRefusalAt settings time before) before
     (record { answer = Done; state = onward (rules settings .point) settings time before })
 
 -- ---- a packet
--- "but header tests have their own order"
-unfoldable pub packetRefusal : Settings → List ℕ → List ℕ → ℕ → List ℕ → State → ℕ
+-- the numbers 1 to 4 first, "but header tests have their own order"
+abbrev pub packetRefusal : Settings → List ℕ → List ℕ → ℕ → List ℕ → State → ℕ
 packetRefusal settings cell plant time bytes before =
     orElse
-    (firstRefusal
-    ((1, badSettings settings) ∷
-    (2, badTables (before .tables)) ∷
-    (3, badList cell || badList plant) ∷
-    (4, ltb time (before .clock)) ∷ []))
+    (earlyRefusal settings (length (before .tables .records)) (length (before .tables .tags)) (length (before .tables .counts)) cell plant (before .clock) time)
     (headerRefusal bytes)
 
 -- "Clock, before every packet that isn't refused, ours or not": then what the packet, by its headers and direction, makes of the tables

@@ -1,19 +1,16 @@
 // The gateway: a cold start, a time alone, and a packet. Tables and clock are lent by the caller, and a refused call leaves them alone.
-ghost use mathlib.Core.Bool.{false, _||_};
-ghost use mathlib.Core.List.{[], _∷_};
+ghost use mathlib.Core.Bool.{false};
 ghost use mathlib.Core.Path.{_≡_};
 ghost use Prim.Native.Nat.{_<_, _≤_};
 ghost use lib.ListN.{length};
-ghost use Rattle.settings.specs.Settings.{badSettings};
 ghost use Rattle.packet.specs.Kinds.{portOf};
-ghost use Rattle.sides.specs.Lists.{badList};
 ghost use Rattle.places.specs.Places.{slotOf};
 ghost use Rattle.entries.specs.Entries.{writtenOf};
 ghost use Rattle.tables.specs.Sizes.{badSizes};
 ghost use Rattle.rulings.specs.Rules.{cellOf, plantOf, document01};
 ghost use Rattle.tables.specs.Tables.{tablesOf};
 ghost use Rattle.gateway.specs.Packets.{outcomeOf, replacementOf, entered, spotOf, rulingAt, settled, ours, directionIn, byDirection};
-ghost use Rattle.gateway.specs.Calls.{afterOf, stateOf, firstRefusal, started, passed, accepted, judged};
+ghost use Rattle.gateway.specs.Calls.{afterOf, stateOf, started, passed, accepted, judged};
 use entries::Replaced;
 use packet::Header;
 use packet::Reading;
@@ -30,24 +27,8 @@ pub enum Reply {
     Done,
 }
 
-// The first of the refusals 1 to 4 whose condition holds, or 0.
-fn first_refusal(bad_settings: bool, bad_sizes: bool, bad_lists: bool, too_early: bool) -> u8
-    ensures { λ r. ⌜ r ≡ firstRefusal ((1, «bad_settings») ∷ (2, «bad_sizes») ∷ (3, «bad_lists») ∷ (4, «too_early») ∷ []) ⌝ }
-{
-    if bad_settings {
-        return 1;
-    }
-    if bad_sizes {
-        return 2;
-    }
-    if bad_lists {
-        return 3;
-    }
-    if too_early {
-        return 4;
-    }
-    0
-}
+// Counts are in points: each multiple of Dmiss that is passed takes one.
+const POINT: u8 = 1;
 
 // Starts cold: every record and tag 0, every count -32,768, and the clock at the time.
 pub fn cold_start(
@@ -61,8 +42,7 @@ pub fn cold_start(
     ensures { λ r. ⌜ afterOf r (now (records .exit)) (now (tags .exit)) (now (counts .exit)) (now (clock .exit))
         ≡ started set time (stateOf (now (records .entry)) (now (tags .entry)) (now (counts .entry)) (now (clock .entry))) ⌝ }
 {
-    let bad = tables::sizes::bad_sizes(records.len(), tags.len(), counts.len());
-    let number = first_refusal(set.is_bad(), bad, false, false);
+    let number = refusals::of_start(set, records.len(), tags.len(), counts.len());
     if number != 0 {
         return Reply::Refused(number);
     }
@@ -83,12 +63,11 @@ pub fn pass(
     ensures { λ r. ⌜ afterOf r (now (records .exit)) (now (tags .exit)) (now (counts .exit)) (now (clock .exit))
         ≡ passed document01 set time (stateOf (now (records .entry)) (now (tags .entry)) (now (counts .entry)) (now (clock .entry))) ⌝ }
 {
-    let bad = tables::sizes::bad_sizes(records.len(), tags.len(), counts.len());
-    let number = first_refusal(set.is_bad(), bad, false, time < *clock);
+    let number = refusals::of_time(set, records.len(), tags.len(), counts.len(), *clock, time);
     if number != 0 {
         return Reply::Refused(number);
     }
-    tables::clock::pass(records, counts, clock, time, 1, set.dmiss, set.dconn);
+    tables::clock::pass(records, counts, clock, time, POINT, set.dmiss, set.dconn);
     Reply::Done
 }
 
@@ -271,22 +250,8 @@ fn accept(
     ensures { λ r. ⌜ afterOf r (now (records .exit)) (now (tags .exit)) (now (counts .exit)) (now (clock .exit))
         ≡ accepted document01 set header direction time (stateOf (now (records .entry)) (now (tags .entry)) (now (counts .entry)) (now (clock .entry))) ⌝ }
 {
-    tables::clock::pass(records, counts, clock, time, 1, set.dmiss, set.dconn);
+    tables::clock::pass(records, counts, clock, time, POINT, set.dmiss, set.dconn);
     judge_by_direction(set, header, direction, records, tags, counts)
-}
-
-// The refusal of a packet before its headers are looked at, or 0.
-fn refusal_before_headers(
-    set: Settings,
-    cell: &[u8],
-    plant: &[u8],
-    bad_tables: bool,
-    too_early: bool,
-) -> u8
-    ensures { λ r. ⌜ r ≡ firstRefusal ((1, badSettings set) ∷ (2, «bad_tables») ∷ (3, badList (now (cell .entry)) || badList (now (plant .entry))) ∷ (4, «too_early») ∷ []) ⌝ }
-{
-    let lists = sides::bad_list(cell) | sides::bad_list(plant);
-    first_refusal(set.is_bad(), bad_tables, lists, too_early)
 }
 
 // Judges a packet that comes at a time, and brings tables and clock up to it.
@@ -305,8 +270,16 @@ pub fn judge(
         ≡ judged document01 set (now (cell .entry)) (now (plant .entry)) time (now (packet .entry))
         (stateOf (now (records .entry)) (now (tags .entry)) (now (counts .entry)) (now (clock .entry))) ⌝ }
 {
-    let bad_tables = tables::sizes::bad_sizes(records.len(), tags.len(), counts.len());
-    let number = refusal_before_headers(set, cell, plant, bad_tables, time < *clock);
+    let number = refusals::of_packet(
+        set,
+        records.len(),
+        tags.len(),
+        counts.len(),
+        cell,
+        plant,
+        *clock,
+        time,
+    );
     if number != 0 {
         return Answer::Refused(number);
     }

@@ -1,42 +1,24 @@
 -- `gateway::judge` meets its contract: a refusal in the order of the numbers, or the packet at its time.
 -- Assumes nothing.
-use mathlib.Core.Bool.{Bool, _||_}
-use mathlib.Core.Path.{_∙_, sym, ap}
-use mathlib.Core.Path.{_≡_}
-use lib.Dec.{ltb}
-use lib.ListN.{length}
+use mathlib.Core.Path.{_∙_, sym}
 use denote.Ref.{now}
 use borrow.Author.Needs.{needs}
-use Rattle.gateway.proofs.Steps.{four, each-passed, refused-first, refused-reading, judged-as}
+use Rattle.gateway.proofs.Steps.{refused-first, refused-reading, judged-as}
 use Rattle.gateway.specs.Calls.{stateOf}
+use Rattle.refusals.proofs.Tests.{good-sizes}
 use Rattle.rulings.specs.Rules.{document01}
-use Rattle.settings.specs.Settings.{badSettings}
-use Rattle.sides.specs.Lists.{badList}
-use Rattle.tables.specs.Sizes.{badSizes}
 use Rattle.gateway.proofs.judge.Statement.{statement}
 use Rattle.gateway.proofs.judge.Tie as tie
 
--- the number that the first four tests give
-first-is : (c : tie.After-refusal-before-headers) → let s = c .before .before .before .before .before .before .before .before in
-    c .refusal-before-headers .result ≡ four (badSettings (s .args .set)) (badSizes (length (now (s .args .records))) (length (now (s .args .tags))) (length (now (s .args .counts))))
-    (badList (now (s .args .cell)) || badList (now (s .args .plant))) (ltb (s .args .time) (now (s .args .clock)))
-first-is c =
-    let s = c .before .before .before .before .before .before .before .before in
-    c .refusal-before-headers .ensures
-    ∙ ap (λ (t : Bool). four (badSettings (s .args .set)) t (badList (now (s .args .cell)) || badList (now (s .args .plant))) (ltb (s .args .time) (now (s .args .clock)))) (c .before .before .bad-sizes .ensures)
-
-bad-sizes-requires : tie.Need-bad-sizes-requires
-bad-sizes-requires c κs = search needs
-
-refusal-before-headers-requires : tie.Need-refusal-before-headers-requires
-refusal-before-headers-requires c κs = search needs
+of-packet-requires : tie.Need-of-packet-requires
+of-packet-requires c κs = search needs
 
 returns : tie.Need-returns
 returns c =
-    let s = c .before .before .before .before .before .before .before .before .before in
+    let s = c .before .before .before .before .before .before .before .before in
     refused-first document01 (s .args .set) (now (s .args .cell)) (now (s .args .plant)) (s .args .time) (now (s .args .packet))
     (stateOf (now (s .args .records)) (now (s .args .tags)) (now (s .args .counts)) (now (s .args .clock)))
-    (first-is (c .before)) (c .if1 .taken)
+    (c .before .of-packet .ensures) (c .if1 .taken)
 
 read-requires : tie.Need-read-requires
 read-requires c κs = search needs
@@ -52,15 +34,16 @@ direction-in-requires c κs = search needs
 
 accept-requires : tie.Need-accept-requires
 accept-requires c κs =
-    let s = c .before .before .before .before .before .before .before .before .before .before .before .before .before .before .before .before .before .before in
-    each-passed (badSettings (s .args .set)) _ (badList (now (s .args .cell)) || badList (now (s .args .plant))) (ltb (s .args .time) (now (s .args .clock))) (sym (first-is (c .before .before .before .before .before .before .before .before .before .before)) ∙ c .before .before .before .before .before .before .before .before .before .if1 .left) .1
+    let s = c .before .before .before .before .before .before .before .before .before .before .before .before .before .before .before .before .before in
+    good-sizes (s .args .set) _ _ _ (now (s .args .cell)) (now (s .args .plant)) (now (s .args .clock)) (s .args .time)
+    (sym (c .before .before .before .before .before .before .before .before .before .before .of-packet .ensures) ∙ c .before .before .before .before .before .before .before .before .before .if1 .left)
 
 returns-2 : tie.Need-returns-2
 returns-2 c =
-    let s = c .before .before .before .before .before .before .before .before .before .before .before .before .before in
+    let s = c .before .before .before .before .before .before .before .before .before .before .before .before in
     refused-reading document01 (s .args .set) (now (s .args .cell)) (now (s .args .plant)) (s .args .time) (now (s .args .packet))
     (stateOf (now (s .args .records)) (now (s .args .tags)) (now (s .args .counts)) (now (s .args .clock)))
-    (sym (first-is (c .before .before .before .before .before)) ∙ c .before .before .before .before .if1 .left) (c .before .before .before .read .ensures) (c .before .number .given .1)
+    (sym (c .before .before .before .before .before .of-packet .ensures) ∙ c .before .before .before .before .if1 .left) (c .before .before .before .read .ensures) (c .before .number .given .1)
 
 same-length : tie.Need-same-length
 same-length c = search needs
@@ -73,18 +56,17 @@ same-length-3 c = search needs
 
 returns-3 : tie.Need-returns-3
 returns-3 c =
-    let s = c .before .before .before .before .before .before .before .before .before .before .before .before .before .before .before .before .before .before .before .before .before .before .before .before in
+    let s = c .before .before .before .before .before .before .before .before .before .before .before .before .before .before .before .before .before .before .before .before .before .before .before in
     judged-as document01 (s .args .set) (now (s .args .cell)) (now (s .args .plant)) (s .args .time) (now (s .args .packet))
     (stateOf (now (s .args .records)) (now (s .args .tags)) (now (s .args .counts)) (now (s .args .clock)))
-    (sym (first-is (c .before .before .before .before .before .before .before .before .before .before .before .before .before .before .before .before)) ∙ c .before .before .before .before .before .before .before .before .before .before .before .before .before .before .before .if1 .left) (c .before .before .before .before .before .before .before .before .before .before .before .before .before .before .read .ensures) (c .before .before .before .before .before .before .before .before .before .before .before .before .header .given .1)
+    (sym (c .before .before .before .before .before .before .before .before .before .before .before .before .before .before .before .before .of-packet .ensures) ∙ c .before .before .before .before .before .before .before .before .before .before .before .before .before .before .before .if1 .left) (c .before .before .before .before .before .before .before .before .before .before .before .before .before .before .read .ensures) (c .before .before .before .before .before .before .before .before .before .before .before .before .header .given .1)
     (c .before .before .before .before .before .before .before .before .before .before .direction-in .ensures) (c .before .before .before .before .before .accept .ensures)
 
 pub judge-spec : {M : Type 1} → statement M
 judge-spec =
     tie.close
     (tie.spec
-    bad-sizes-requires
-    refusal-before-headers-requires
+    of-packet-requires
     returns
     read-requires
     enum-known-number

@@ -1,0 +1,2 @@
+-- What is proved of refusals beyond the contracts.
+pub mod Tests
