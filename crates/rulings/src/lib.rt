@@ -65,9 +65,10 @@ pub fn ruling_of(set: Settings, header: Header, from_plant: bool, byte: u8, coun
     let blocked = counts::is_blocked(count, set.threshold);
     let verdict = verdicts::verdict_of(from_plant, blocked, records::marks_of(byte), kind);
     let after = count_after(verdict, count, set.floor);
+    let renewed = verdicts::record_after(from_plant, kind, verdict, byte);
     Ruling {
         verdict,
-        byte: verdicts::record_after(from_plant, kind, verdict, byte),
+        byte: renewed,
         writes: after.writes,
         count: after.count,
     }

@@ -1,0 +1,104 @@
+// Document 01's session of four records, all at second 100, over 4,096 records and 256 lines.
+use crate::lines;
+use crate::packets;
+use rulings::answers::Answer;
+use settings::Settings;
+use tally::Tally;
+
+const CELL_LIST: [u8; 5] = [10, 0, 0, 0, 8];
+
+const PLANT_LIST: [u8; 5] = [192, 168, 0, 0, 16];
+
+fn packet_of(turn: u8) -> [u8; 40] {
+    let cell = packets::CELL_HOST;
+    let plant = packets::PLANT_HOST;
+    let there = packets::PORTS;
+    match turn {
+        1 => packets::packet(packets::TCP, cell, plant, there, packets::SYN),
+        2 => packets::packet(
+            packets::TCP,
+            plant,
+            cell,
+            packets::PORTS_BACK,
+            packets::SYN + packets::ACK,
+        ),
+        3 => packets::packet(packets::TCP, cell, plant, there, packets::ACK),
+        _ => packets::packet(packets::UDP, cell, [10, 0, 0, 2], there, 0),
+    }
+}
+
+fn judge(
+    turn: u8,
+    records: &mut [u8],
+    tags: &mut [u32],
+    counts: &mut [i16],
+    clock: &mut u32,
+) -> Answer {
+    let packet = packet_of(turn);
+    gateway::judge(
+        Settings::factory(),
+        &CELL_LIST,
+        &PLANT_LIST,
+        records,
+        tags,
+        counts,
+        clock,
+        100,
+        &packet,
+    )
+}
+
+fn print_turn(turn: u8, answer: Answer) {
+    lines::number(turn as u64);
+    lines::mark(b' ');
+    lines::answer(answer);
+    lines::mark(b'\n');
+}
+
+fn judge_all(records: &mut [u8], tags: &mut [u32], counts: &mut [i16], clock: &mut u32) -> Tally {
+    let mut tally = Tally::empty();
+    let mut turn = 1u8;
+    while turn <= 4 {
+        let answer = judge(turn, records, tags, counts, clock);
+        print_turn(turn, answer);
+        tally = tally.with(answer);
+        turn += 1;
+    }
+    tally
+}
+
+fn print_total(total: u32) {
+    lines::mark(b' ');
+    lines::number(total as u64);
+}
+
+fn print_totals(totals: [u32; 7]) {
+    lines::text(b"tally");
+    print_total(totals[0]);
+    print_total(totals[1]);
+    print_total(totals[2]);
+    print_total(totals[3]);
+    print_total(totals[4]);
+    print_total(totals[5]);
+    print_total(totals[6]);
+    lines::mark(b'\n');
+}
+
+// The tables hold other things before the cold start, so that it has work to do.
+pub fn run() {
+    let mut records = [255u8; 4096];
+    let mut tags = [7u32; 1024];
+    let mut counts = [9i16; 1024];
+    let mut clock = 4000000000;
+    gateway::cold_start(
+        Settings::factory(),
+        &mut records,
+        &mut tags,
+        &mut counts,
+        &mut clock,
+        100,
+    );
+    let tally = judge_all(&mut records, &mut tags, &mut counts, &mut clock);
+    let totals = tally.totals;
+    print_totals(totals);
+}
