@@ -15,7 +15,7 @@ use Rattle.tables.specs.Clock.{Timed, timedOf}
 use Rattle.tables.proofs.Jumps.{clock-is, records-stay, counts-stay, stands, by-way-of}
 use Rattle.rulings.specs.Rules.{Rules}
 use Rattle.refusals.specs.Refusals.{timeRefusal}
-use Rattle.gateway.specs.Calls.{State, stateOf, onward, passed}
+use Rattle.gateway.specs.Calls.{State, stateOf, bySizes, onward, passed}
 
 -- what time changes of a state, and a state with that changed
 abbrev timedIn : State → Timed
@@ -25,7 +25,7 @@ abbrev changedTo : State → Timed → State
 changedTo s m = stateOf (m .records) (s .tables .tags) (m .counts) (m .clock)
 
 abbrev pub badTables : State → Bool
-badTables s = badSizes (length (s .tables .records)) (length (s .tables .tags)) (length (s .tables .counts))
+badTables s = bySizes badSizes (s .tables)
 
 module _ (rules : Settings → Rules) (settings : Settings) where
   abbrev at : ℕ → State → State

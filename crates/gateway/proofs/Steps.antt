@@ -30,7 +30,7 @@ use Rattle.tables.specs.Tables.{Tables, tablesOf}
 use Rattle.refusals.specs.Refusals.{earlyRefusal}
 use Rattle.gateway.specs.declared.Spot.{Spot}
 use Rattle.gateway.specs.Packets.{Outcome, outcomeOf, replacementOf, entered, spotOf, rulingAt, settled, ours, directionIn, byDirection}
-use Rattle.gateway.specs.Calls.{State, After, orElse, unlessRefused, accepted, judged}
+use Rattle.gateway.specs.Calls.{State, After, orElse, bySizes, unlessRefused, accepted, judged}
 
 -- ---- refusals
 module _ {A : Type 0} (refused : ℕ → A) (before : State) (after : After A) where
@@ -120,8 +120,7 @@ first-of-two (suc m) k e ne = e
 
 module _ (rules : Settings → Rules) (settings : Settings) (cell plant : List ℕ) (time : ℕ) (bytes : List ℕ) (before : State) where
   abbrev first : ℕ
-  first =
-      earlyRefusal settings (length (before .tables .records)) (length (before .tables .tags)) (length (before .tables .counts)) cell plant (before .clock) time
+  first = bySizes (earlyRefusal settings) (before .tables) cell plant (before .clock) time
 
   abbrev after : After Answer
   after = accepted rules settings (headerOf bytes) (directionIn cell plant (headerOf bytes)) time before

@@ -46,6 +46,10 @@ abbrev pub unlessRefused : {A : Type 0} → (ℕ → A) → ℕ → State → Af
 unlessRefused refused zero before after = after
 unlessRefused refused (suc n) before after = record { answer = refused (suc n); state = before }
 
+-- a test of how many records, tags and counts there are
+abbrev pub bySizes : {A : Type 0} → (ℕ → ℕ → ℕ → A) → Tables → A
+bySizes test tables = test (length (tables .records)) (length (tables .tags)) (length (tables .counts))
+
 -- the number of a reply's refusal, and 0 where the call is done
 abbrev pub refusalIn : Reply → ℕ
 refusalIn (Refused number) = number
@@ -53,8 +57,7 @@ refusalIn Done = 0
 
 -- ---- a cold start
 abbrev pub startRefusalAt : Settings → State → ℕ
-startRefusalAt settings before =
-    startRefusal settings (length (before .tables .records)) (length (before .tables .tags)) (length (before .tables .counts))
+startRefusalAt settings before = bySizes (startRefusal settings) (before .tables)
 
 -- it "sets the clock"
 abbrev pub coldState : ℕ → State → State
@@ -66,8 +69,7 @@ started settings time before =
 
 -- ---- a time alone
 abbrev pub timeRefusalAt : Settings → ℕ → State → ℕ
-timeRefusalAt settings time before =
-    timeRefusal settings (length (before .tables .records)) (length (before .tables .tags)) (length (before .tables .counts)) (before .clock) time
+timeRefusalAt settings time before = bySizes (timeRefusal settings) (before .tables) (before .clock) time
 
 -- the state at a new time, by the size of a point: what the clock does to records and counts. It leaves the tags.
 abbrev pub onward : ℕ → Settings → ℕ → State → State
@@ -87,7 +89,7 @@ passed rules settings time before =
 abbrev pub packetRefusal : Settings → List ℕ → List ℕ → ℕ → List ℕ → State → ℕ
 packetRefusal settings cell plant time bytes before =
     orElse
-    (earlyRefusal settings (length (before .tables .records)) (length (before .tables .tags)) (length (before .tables .counts)) cell plant (before .clock) time)
+    (bySizes (earlyRefusal settings) (before .tables) cell plant (before .clock) time)
     (headerRefusal bytes)
 
 -- "Clock, before every packet that isn't refused, ours or not": then what the packet, by its headers and direction, makes of the tables
