@@ -49,9 +49,9 @@ module _ (rules : Settings → Rules) (settings : Settings) where
 
   module _ (good : badSettings settings ≡ false) where
     -- a call that is not refused
-    pub not-refused : (time : ℕ) (s : State) → badTables s ≡ false → s .clock ≤ time → passed rules settings time s .state ≡ at time s
+    pub passes : (time : ℕ) (s : State) → badTables s ≡ false → s .clock ≤ time → passed rules settings time s .state ≡ at time s
     unfolding passed timeRefusal
-    not-refused time s sized h = rw (good, sized, le-ltb _ _ h)
+    passes time s sized h = rw (good, sized, le-ltb _ _ h)
 
     -- a call that passes to the next second
     abbrev pub nextSecond : State → State
@@ -66,10 +66,10 @@ module _ (rules : Settings → Rules) (settings : Settings) where
         let next : suc (at (s .clock + gap) s .clock) ≡ s .clock + suc gap = omega arith in
         times-more nextSecond gap s
         ∙ ap nextSecond (seconds gap s sized)
-        ∙ not-refused _ (at (s .clock + gap) s) (sizes-stay (s .clock + gap) s ∙ sized) (omega arith)
+        ∙ passes _ (at (s .clock + gap) s) (sizes-stay (s .clock + gap) s ∙ sized) (omega arith)
         ∙ ap (λ (t : ℕ). at t (at (s .clock + gap) s)) next
         ∙ at-at (s .clock + gap) (s .clock + suc gap) s (omega arith) (omega arith)
 
     pub second-by-second : (gap : ℕ) (s : State) → badTables s ≡ false
         → times gap nextSecond s ≡ passed rules settings (s .clock + gap) s .state
-    second-by-second gap s sized = seconds gap s sized ∙ sym (not-refused (s .clock + gap) s sized (omega arith))
+    second-by-second gap s sized = seconds gap s sized ∙ sym (passes (s .clock + gap) s sized (omega arith))

@@ -18,19 +18,20 @@ use Rattle.rulings.specs.Rulings.{countWritten, countedBy, rulingOf}
 use Rattle.verdicts.specs.Verdicts.{isForwarded}
 
 -- a dropped packet writes no count
-drop-writes : (floor : ℤ) (verdict : Verdict) (count : ℤ) → isForwarded verdict ≡ false → countWritten floor 1 1 none verdict count ≡ none
+drop-writes : (floor : ℤ) (point weight : ℕ) (verdict : Verdict) (count : ℤ) → isForwarded verdict ≡ false
+    → countWritten floor point weight none verdict count ≡ none
 unfolding countWritten
-drop-writes floor Uncounted count d = true-is-not-false refl d
-drop-writes floor CreditOfOne count d = true-is-not-false refl d
-drop-writes floor CreditOfTwo count d = true-is-not-false refl d
-drop-writes floor FreshContact count d = true-is-not-false refl d
-drop-writes floor Hygiene count d = refl
-drop-writes floor Blocked count d = refl
+drop-writes floor point weight Uncounted count d = true-is-not-false refl d
+drop-writes floor point weight CreditOfOne count d = true-is-not-false refl d
+drop-writes floor point weight CreditOfTwo count d = true-is-not-false refl d
+drop-writes floor point weight FreshContact count d = true-is-not-false refl d
+drop-writes floor point weight Hygiene count d = refl
+drop-writes floor point weight Blocked count d = refl
 
 none-written : (floor : ℤ) (cold : Bool) (verdict : Verdict) (count : ℤ) → isForwarded verdict ≡ false
     → countWritten floor 1 1 (cond cold none none) verdict count ≡ none
 none-written floor cold verdict count d =
-    ap (λ (a : Option ℤ). countWritten floor 1 1 a verdict count) (sym (no-attempt cold)) ∙ drop-writes floor verdict count d
+    ap (λ (a : Option ℤ). countWritten floor 1 1 a verdict count) (sym (no-attempt cold)) ∙ drop-writes floor 1 1 verdict count d
 
 pub drop-writes-nothing : (set : Settings) (h : Header) (fromPlant : Bool) (byte : ℕ) (count : ℤ)
     → let r = rulingOf (document01 set) h fromPlant byte count in
