@@ -1,6 +1,6 @@
--- Numbers made of bytes, "most significant byte first".
+-- Numbers made of bytes: "most significant byte first", and "in either byte order".
 -- Assumes nothing.
-use mathlib.Core.Bool.{cond}
+use mathlib.Core.Bool.{Bool, true, false, cond}
 use mathlib.Core.List.{List}
 use Prim.Native.Nat.{ℕ, _+_, _*_}
 use lib.Dec.{leb}
@@ -18,6 +18,15 @@ twoAt l at = ofTwo (getD l at 0) (getD l (at + 1) 0)
 
 abbrev pub fourAt : List ℕ → ℕ → ℕ
 fourAt l at = ofFour (getD l at 0) (getD l (at + 1) 0) (getD l (at + 2) 0) (getD l (at + 3) 0)
+
+-- the same in either byte order: as above, or the least significant byte first
+abbrev pub twoIn : Bool → List ℕ → ℕ → ℕ
+twoIn true l at = twoAt l at
+twoIn false l at = ofTwo (getD l (at + 1) 0) (getD l at 0)
+
+abbrev pub fourIn : Bool → List ℕ → ℕ → ℕ
+fourIn true l at = fourAt l at
+fourIn false l at = ofFour (getD l (at + 3) 0) (getD l (at + 2) 0) (getD l (at + 1) 0) (getD l at 0)
 
 -- what f makes of the n bytes at a place, and 0 where they are not all there
 unfoldable pub whole : ℕ → (List ℕ → ℕ → ℕ) → List ℕ → ℕ → ℕ

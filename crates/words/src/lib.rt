@@ -1,8 +1,9 @@
-// Numbers made of bytes, the most significant byte first. Where the bytes are not all there, the number is 0.
+// Numbers made of bytes, in either byte order. Where the bytes are not all there, the number is 0.
+ghost use mathlib.Core.Bool.{true};
 ghost use mathlib.Core.Path.{_≡_};
-ghost use Rattle.words.specs.Words.{ofTwo, ofFour, twoAt, fourAt, whole};
+ghost use Rattle.words.specs.Words.{ofTwo, ofFour, twoAt, fourAt, twoIn, fourIn, whole};
 
-// The number of two bytes, and of four.
+// The number of two bytes, and of four, the most significant first.
 fn of_two(first: u8, second: u8) -> u16
     ensures { λ r. ⌜ r ≡ ofTwo first second ⌝ }
 {
@@ -15,9 +16,9 @@ fn of_four(first: u8, second: u8, third: u8, fourth: u8) -> u32
     (first as u32) * 16777216 + (second as u32) * 65536 + (third as u32) * 256 + (fourth as u32)
 }
 
-// The number that the two bytes at a place make.
-pub fn two_at(bytes: &[u8], at: usize) -> u16
-    ensures { λ r. ⌜ r ≡ whole 2 twoAt (now (bytes .entry)) at ⌝ }
+// The number that the two bytes at a place make, the most significant first where big_endian, and else the least.
+pub fn two_in(bytes: &[u8], at: usize, big_endian: bool) -> u16
+    ensures { λ r. ⌜ r ≡ whole 2 (twoIn «big_endian») (now (bytes .entry)) at ⌝ }
 {
     if bytes.len() < 2 {
         return 0;
@@ -25,12 +26,15 @@ pub fn two_at(bytes: &[u8], at: usize) -> u16
     if bytes.len() - 2 < at {
         return 0;
     }
-    of_two(bytes[at], bytes[at + 1])
+    if big_endian {
+        return of_two(bytes[at], bytes[at + 1]);
+    }
+    of_two(bytes[at + 1], bytes[at])
 }
 
-// The number that the four bytes at a place make.
-pub fn four_at(bytes: &[u8], at: usize) -> u32
-    ensures { λ r. ⌜ r ≡ whole 4 fourAt (now (bytes .entry)) at ⌝ }
+// The number that the four bytes at a place make, in either byte order.
+pub fn four_in(bytes: &[u8], at: usize, big_endian: bool) -> u32
+    ensures { λ r. ⌜ r ≡ whole 4 (fourIn «big_endian») (now (bytes .entry)) at ⌝ }
 {
     if bytes.len() < 4 {
         return 0;
@@ -38,5 +42,22 @@ pub fn four_at(bytes: &[u8], at: usize) -> u32
     if bytes.len() - 4 < at {
         return 0;
     }
-    of_four(bytes[at], bytes[at + 1], bytes[at + 2], bytes[at + 3])
+    if big_endian {
+        return of_four(bytes[at], bytes[at + 1], bytes[at + 2], bytes[at + 3]);
+    }
+    of_four(bytes[at + 3], bytes[at + 2], bytes[at + 1], bytes[at])
+}
+
+// The number that the two bytes at a place make, the most significant first.
+pub fn two_at(bytes: &[u8], at: usize) -> u16
+    ensures { λ r. ⌜ r ≡ whole 2 twoAt (now (bytes .entry)) at ⌝ }
+{
+    two_in(bytes, at, true)
+}
+
+// The number that the four bytes at a place make, the most significant first.
+pub fn four_at(bytes: &[u8], at: usize) -> u32
+    ensures { λ r. ⌜ r ≡ whole 4 fourAt (now (bytes .entry)) at ⌝ }
+{
+    four_in(bytes, at, true)
 }

@@ -1,0 +1,2 @@
+-- What the proofs of reading cite, and the theorems over whole captures.
+pub mod Readings

@@ -1,0 +1,2 @@
+-- What a capture is, and what reading it answers.
+pub mod Capture

@@ -1,0 +1,112 @@
+// Reading captures: classic pcap, version 2.4, in either byte order, link type 1. A capture may lie in memory whole, or in part: a record
+// that ends beyond the bytes at hand is told as cut, and read again when there are more.
+ghost use mathlib.Core.Path.{_≡_};
+ghost use Prim.Native.Nat.{_+_, _≤_};
+ghost use lib.ListN.{length};
+ghost use Rattle.capture.specs.Capture.{badWords, openedOf, headAt, nextOf};
+
+const MAGIC: u32 = 0xa1b2c3d4;
+
+const HEADER: usize = 24;
+
+const RECORD_HEADER: usize = 16;
+
+const MOST_CAPTURED: usize = 2048;
+
+// Where the next record starts among the bytes at hand, and the capture's byte order.
+pub struct Cursor {
+    pub at: usize,
+    pub big_endian: bool,
+}
+
+// What opening answers: the number of a refusal, or where the first record starts.
+pub enum Opened {
+    Refused(u8),
+    Open(Cursor),
+}
+
+// A record: its second and microsecond, how many bytes were captured of how many, and where these stand: from a place up to another,
+// where the next record starts.
+pub struct Record {
+    pub seconds: u32,
+    pub microseconds: u32,
+    pub captured: usize,
+    pub original: u32,
+    pub from: usize,
+    pub end: usize,
+}
+
+// What reading a record answers: that no byte is left, that a record is cut off by the end of the bytes, that it has too many captured bytes,
+// or the record.
+pub enum Reading {
+    End,
+    Cut,
+    Long,
+    Whole(Record),
+}
+
+// Whether a header that is not short has a wrong magic, version or link type.
+fn bad_words(bytes: &[u8], big_endian: bool) -> bool
+    requires { ⌜ 24 ≤ length (now bytes) ⌝ }
+    ensures { λ r. ⌜ r ≡ badWords «big_endian» (now (bytes .entry)) ⌝ }
+{
+    let magic = words::four_in(bytes, 0, big_endian);
+    let major = words::two_in(bytes, 4, big_endian);
+    let minor = words::two_in(bytes, 6, big_endian);
+    let link = words::four_in(bytes, 20, big_endian);
+    (magic != MAGIC) | (((major != 2) | (minor != 4)) | (link != 1))
+}
+
+// Reads a capture's header.
+pub fn open(bytes: &[u8]) -> Opened
+    ensures { λ r. ⌜ r ≡ openedOf (now (bytes .entry)) ⌝ }
+{
+    if bytes.len() < HEADER {
+        return Opened::Refused(7);
+    }
+    let big_endian = words::four_at(bytes, 0) == MAGIC;
+    if bad_words(bytes, big_endian) {
+        return Opened::Refused(7);
+    }
+    Opened::Open(Cursor {
+        at: HEADER,
+        big_endian,
+    })
+}
+
+// What a record's header says, where it is all there. No record ends before its header does: the end is that of its captured bytes.
+fn head_at(bytes: &[u8], at: usize, big_endian: bool) -> Record
+    requires { ⌜ at + 16 ≤ length (now bytes) ⌝ }
+    ensures { λ r. ⌜ r ≡ headAt «big_endian» at (now (bytes .entry)) ⌝ }
+{
+    let captured = words::four_in(bytes, at + 8, big_endian) as usize;
+    let from = at + RECORD_HEADER;
+    Record {
+        seconds: words::four_in(bytes, at, big_endian),
+        microseconds: words::four_in(bytes, at + 4, big_endian),
+        captured,
+        original: words::four_in(bytes, at + 12, big_endian),
+        from,
+        end: from + captured,
+    }
+}
+
+// Reads the record that starts at the cursor.
+pub fn next(bytes: &[u8], cursor: Cursor) -> Reading
+    ensures { λ r. ⌜ r ≡ nextOf (now (bytes .entry)) cursor ⌝ }
+{
+    if bytes.len() <= cursor.at {
+        return Reading::End;
+    }
+    if bytes.len() - cursor.at < RECORD_HEADER {
+        return Reading::Cut;
+    }
+    let record = head_at(bytes, cursor.at, cursor.big_endian);
+    if MOST_CAPTURED < record.captured {
+        return Reading::Long;
+    }
+    if bytes.len() < record.end {
+        return Reading::Cut;
+    }
+    Reading::Whole(record)
+}

@@ -1,0 +1,184 @@
+//! Header reading and kinds of packet.
+
+use crate::refusal::Refusal;
+
+#[derive(Clone, Copy, Debug, PartialEq, Eq)]
+pub enum Kind {
+    Plain,
+    Udp,
+    Opening,
+    SynAck,
+    Closing,
+}
+
+#[derive(Clone, Copy, Debug, PartialEq, Eq)]
+pub struct Packet {
+    pub source: u32,
+    pub destination: u32,
+    pub kind: Kind,
+    /// The ports of the two ends "for TCP; otherwise 0".
+    pub source_port: u16,
+    pub destination_port: u16,
+}
+
+/// Reads the bytes given, from the first byte of the IP header on.
+pub fn read(given: &[u8]) -> Result<Packet, Refusal> {
+    // "fewer than 20 bytes, 5;"
+    let Some(ip) = given.first_chunk::<20>() else {
+        return Err(Refusal::HeaderEndsTooSoon);
+    };
+    // "then 6" - "the IP version isn't 4, header length below 5 words, or total length below
+    // header length";
+    let version = ip[0] >> 4;
+    let header_words = ip[0] & 15;
+    let header_length = usize::from(header_words) * 4;
+    let total_length = usize::from(u16::from_be_bytes([ip[2], ip[3]]));
+    if version != 4 || header_words < 5 || total_length < header_length {
+        return Err(Refusal::BadHeader);
+    }
+    // "then bytes fewer than the header length, 5;"
+    if given.len() < header_length {
+        return Err(Refusal::HeaderEndsTooSoon);
+    }
+    // "then transport." "Usable bytes are the smaller of those given and the total length." Both
+    // are at least the header length by now.
+    let usable = given.len().min(total_length);
+    let transport = &given[header_length..usable];
+
+    let offset = u16::from_be_bytes([ip[6], ip[7]]) & 0x1fff;
+    let protocol = ip[9];
+    let (kind, source_port, destination_port) = match (offset, protocol) {
+        // "With fragment offset 0, TCP needs 20 usable bytes after the IP header"
+        (0, 6) => match transport.first_chunk::<20>() {
+            None => return Err(Refusal::HeaderEndsTooSoon),
+            Some(tcp) => (
+                kind_of_tcp(tcp[13]),
+                u16::from_be_bytes([tcp[0], tcp[1]]),
+                u16::from_be_bytes([tcp[2], tcp[3]]),
+            ),
+        },
+        // "and UDP 8, else 5."
+        (0, 17) if transport.len() < 8 => return Err(Refusal::HeaderEndsTooSoon),
+        (0, 17) => (Kind::Udp, 0, 0),
+        // "Other protocols are plain. A fragment with offset above 0 is plain and has port 0."
+        _ => (Kind::Plain, 0, 0),
+    };
+    Ok(Packet {
+        source: u32::from_be_bytes([ip[12], ip[13], ip[14], ip[15]]),
+        destination: u32::from_be_bytes([ip[16], ip[17], ip[18], ip[19]]),
+        kind,
+        source_port,
+        destination_port,
+    })
+}
+
+/// "its flags are FIN 1, SYN 2, RST 4, ACK 16; PSH, URG, ECE and CWR are ignored."
+fn kind_of_tcp(flags: u8) -> Kind {
+    match flags & (1 + 2 + 4 + 16) {
+        // "2 is opening;"
+        2 => Kind::Opening,
+        // "18 is SYN+ACK;"
+        18 => Kind::SynAck,
+        // "1, 4, 17 and 20 are closing;"
+        1 | 4 | 17 | 20 => Kind::Closing,
+        // "every other value is plain."
+        _ => Kind::Plain,
+    }
+}
+
+#[cfg(test)]
+mod tests {
+    use super::*;
+    use crate::samples::{ip, tcp, udp};
+
+    const SOON: Result<Kind, Refusal> = Err(Refusal::HeaderEndsTooSoon);
+    const BAD: Result<Kind, Refusal> = Err(Refusal::BadHeader);
+
+    fn kind(bytes: &[u8]) -> Result<Kind, Refusal> {
+        read(bytes).map(|packet| packet.kind)
+    }
+
+    fn with(mut bytes: Vec<u8>, at: usize, value: u8) -> Vec<u8> {
+        bytes[at] = value;
+        bytes
+    }
+
+    #[test]
+    fn addresses_ports_and_flags() {
+        let told = read(&tcp((0x0A00_0001, 40_000), (0xC0A8_0001, 80), 2));
+        let packet = Packet {
+            source: 0x0A00_0001,
+            destination: 0xC0A8_0001,
+            kind: Kind::Opening,
+            source_port: 40_000,
+            destination_port: 80,
+        };
+        assert_eq!(told, Ok(packet));
+        let told = read(&udp(0x0A00_0001, 0xC0A8_0001));
+        let packet = Packet { kind: Kind::Udp, source_port: 0, destination_port: 0, ..packet };
+        assert_eq!(told, Ok(packet));
+        for ignored in [0, 8, 32, 64, 128, 8 + 32 + 64 + 128] {
+            for plain in [0, 3, 5, 6, 7, 16, 19, 21, 22, 23] {
+                assert_eq!(kind_of_tcp(ignored + plain), Kind::Plain);
+            }
+            for closing in [1, 4, 17, 20] {
+                assert_eq!(kind_of_tcp(ignored + closing), Kind::Closing);
+            }
+            assert_eq!(kind_of_tcp(ignored + 2), Kind::Opening);
+            assert_eq!(kind_of_tcp(ignored + 18), Kind::SynAck);
+        }
+    }
+
+    #[test]
+    fn refusals_5_and_6_of_the_ip_header() {
+        let good = ip(1, 1, 2, &[]);
+        assert_eq!(kind(&good), Ok(Kind::Plain));
+        assert_eq!(kind(&good[..19]), SOON);
+        assert_eq!(kind(&[]), SOON);
+        assert_eq!(kind(&with(good.clone(), 0, 0x35)), BAD);
+        assert_eq!(kind(&with(good.clone(), 0, 0x55)), BAD);
+        assert_eq!(kind(&with(good.clone(), 0, 0x44)), BAD);
+        assert_eq!(kind(&with(good.clone(), 3, 19)), BAD);
+        // 5 for under 20 bytes stands before 6, 6 before 5 for a short long header.
+        assert_eq!(kind(&with(good.clone(), 0, 0x55)[..19]), SOON);
+        assert_eq!(kind(&with(good.clone(), 0, 0x5F)), BAD);
+        assert_eq!(kind(&with(good, 0, 0x46)), BAD);
+        // A header of six words.
+        let six = with(ip(1, 1, 2, &[0; 4]), 0, 0x46);
+        assert_eq!(kind(&six), Ok(Kind::Plain));
+        assert_eq!(kind(&six[..23]), SOON);
+        assert_eq!(kind(&with(six, 3, 23)), BAD);
+    }
+
+    #[test]
+    fn refusal_5_of_the_transport_header() {
+        let full = tcp((1, 1), (2, 2), 2);
+        assert_eq!(kind(&full), Ok(Kind::Opening));
+        assert_eq!(kind(&full[..39]), SOON);
+        assert_eq!(kind(&with(full.clone(), 3, 39)), SOON);
+        // Other protocols need nothing, nor do fragments with offset above 0.
+        assert_eq!(kind(&with(full.clone(), 9, 1)[..20]), Ok(Kind::Plain));
+        assert_eq!(kind(&with(full[..20].to_vec(), 7, 1)), Ok(Kind::Plain));
+        // Bytes beyond the total length are not usable; missing bytes beyond those needed are.
+        let mut longer = full.clone();
+        longer.extend([0; 6]);
+        assert_eq!(kind(&with(longer.clone(), 3, 39)), SOON);
+        assert_eq!(kind(&with(longer, 2, 5)), Ok(Kind::Opening));
+
+        let full = udp(1, 2);
+        assert_eq!(kind(&full), Ok(Kind::Udp));
+        assert_eq!(kind(&full[..27]), SOON);
+        assert_eq!(kind(&with(full.clone(), 3, 27)), SOON);
+        // Offsets 1, 256 and 4,096 make it plain; the three bits before the offset do not.
+        assert_eq!(kind(&with(full.clone(), 7, 1)), Ok(Kind::Plain));
+        assert_eq!(kind(&with(full.clone(), 6, 1)), Ok(Kind::Plain));
+        assert_eq!(kind(&with(full.clone(), 6, 0x10)), Ok(Kind::Plain));
+        assert_eq!(kind(&with(full, 6, 0xE0)), Ok(Kind::Udp));
+        // With a header of six words the transport header starts four bytes later.
+        let six = with(with(ip(6, 1, 2, &[0; 24]), 0, 0x46), 24 + 13, 18);
+        assert_eq!(kind(&six), Ok(Kind::SynAck));
+        assert_eq!(kind(&six[..43]), SOON);
+        let fragment = with(with(tcp((1, 1), (2, 2), 2), 7, 1), 6, 0x20);
+        assert_eq!(read(&fragment).map(|p| (p.source_port, p.destination_port)), Ok((0, 0)));
+    }
+}

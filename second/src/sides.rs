@@ -1,0 +1,68 @@
+//! Which side.
+
+#[derive(Clone, Copy, Debug, PartialEq, Eq)]
+pub enum Side {
+    Cell,
+    Plant,
+}
+
+/// An entry of a side list: address and prefix length, 0 to 32.
+pub type Entry = (u32, u32);
+
+pub struct Sides {
+    pub cell: &'static [Entry],
+    pub plant: &'static [Entry],
+}
+
+/// "Address bits beyond the prefix are ignored."
+fn holds((prefix, length): Entry, address: u32) -> bool {
+    u64::from(prefix ^ address) >> (32 - length.min(32)) == 0
+}
+
+impl Sides {
+    /// "An address belongs to the list with the longest prefix that holds it; at equal length the
+    /// cell list wins".
+    pub fn side_of(&self, address: u32) -> Option<Side> {
+        for length in (0..=32).rev() {
+            let held = |list: &[Entry]| list.iter().any(|e| e.1 == length && holds(*e, address));
+            if held(self.cell) {
+                return Some(Side::Cell);
+            }
+            if held(self.plant) {
+                return Some(Side::Plant);
+            }
+        }
+        None
+    }
+}
+
+#[cfg(test)]
+mod tests {
+    use super::*;
+
+    #[test]
+    fn the_edges_of_the_program_s_sides() {
+        let sides = crate::SIDES;
+        assert_eq!(sides.side_of(0x09FF_FFFF), None);
+        assert_eq!(sides.side_of(0x0A00_0000), Some(Side::Cell));
+        assert_eq!(sides.side_of(0x0AFF_FFFF), Some(Side::Cell));
+        assert_eq!(sides.side_of(0x0B00_0000), None);
+        assert_eq!(sides.side_of(0xC0A7_FFFF), None);
+        assert_eq!(sides.side_of(0xC0A8_0000), Some(Side::Plant));
+        assert_eq!(sides.side_of(0xC0A8_FFFF), Some(Side::Plant));
+        assert_eq!(sides.side_of(0xC0A9_0000), None);
+    }
+
+    #[test]
+    fn longest_prefix_then_the_cell_list() {
+        let sides = Sides {
+            cell: &[(0x0A00_0000, 8), (0x0A01_0203, 32), (0x0B00_00FF, 24)],
+            plant: &[(0, 0), (0x0A01_0200, 24), (0x0B00_0000, 24)],
+        };
+        assert_eq!(sides.side_of(0x0A00_0001), Some(Side::Cell));
+        assert_eq!(sides.side_of(0x0A01_0204), Some(Side::Plant));
+        assert_eq!(sides.side_of(0x0A01_0203), Some(Side::Cell));
+        assert_eq!(sides.side_of(0x0B00_0001), Some(Side::Cell));
+        assert_eq!(sides.side_of(0xFFFF_FFFF), Some(Side::Plant));
+    }
+}
