@@ -1,7 +1,7 @@
 -- `capture::open` meets its contract: a short header, a wrong one, and one that is neither.
 -- Assumes nothing.
 use borrow.Author.Needs.{needs}
-use mathlib.Core.Path.{sym, _∙_, ap}
+use mathlib.Core.Path.{sym, _∙_}
 use native.Mathlib.Omega.{arith}
 use Rattle.capture.proofs.Readings.{short, wrong, opened}
 use Rattle.capture.proofs.open.Statement.{statement}

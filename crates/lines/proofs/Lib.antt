@@ -1,0 +1,4 @@
+-- What the proofs of the lines cite.
+pub mod Rooms
+mod Digits
+mod Signs

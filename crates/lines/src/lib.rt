@@ -1,0 +1,157 @@
+// The printing program's lines, put into lent room from a place on. A byte for which there is no room is left out, and the answer is the
+// place after the last byte that was put.
+ghost use mathlib.Core.Path.{_≡_};
+ghost use mathlib.Core.List.{_∷_, _++_};
+ghost use lib.IntN.{natAbs};
+ghost use Rattle.rulings.specs.declared.answers.Answer.the-variants.{NotOurs};
+ghost use Rattle.rulings.specs.Answers.{addressTold};
+ghost use Rattle.lines.specs.Text.{space, dot, decimal, signed, dotted, orDash};
+ghost use Rattle.lines.specs.Lines.{verdictText, refusalText, answerText, line, end, lastLine};
+ghost use Rattle.lines.specs.Room.{roomOf, putByte, put};
+use rulings::answers::Answer;
+use rulings::answers::Replacement;
+
+fn put_byte(room: &mut [u8], at: usize, byte: u8) -> usize
+    ensures { λ r. ⌜ roomOf r (now (room .exit)) ≡ putByte byte (roomOf at (now (room .entry))) ⌝ }
+{
+    if at < room.len() {
+        room[at] = byte;
+        return at + 1;
+    }
+    at
+}
+
+// A number's decimal digits: those of a tenth of it, and the last.
+fn put_decimal(room: &mut [u8], at: usize, number: u64) -> usize
+    ensures { λ r. ⌜ roomOf r (now (room .exit)) ≡ put (decimal number) (roomOf at (now (room .entry))) ⌝ }
+{
+    if number < 10 {
+        return put_byte(room, at, 48 + number as u8);
+    }
+    let next = put_decimal(room, at, number / 10);
+    put_byte(room, next, 48 + (number % 10) as u8)
+}
+
+// How far a count is from 0. In 32 bits -count fits, as it does not in 16.
+fn magnitude(count: i16) -> u64
+    ensures { λ r. ⌜ r ≡ natAbs count ⌝ }
+{
+    let wide = count as i32;
+    if wide < 0 {
+        (-wide) as u64
+    } else {
+        wide as u64
+    }
+}
+
+fn put_signed(room: &mut [u8], at: usize, count: i16) -> usize
+    ensures { λ r. ⌜ roomOf r (now (room .exit)) ≡ put (signed count) (roomOf at (now (room .entry))) ⌝ }
+{
+    if count < 0 {
+        let next = put_byte(room, at, b'-');
+        return put_decimal(room, next, magnitude(count));
+    }
+    put_decimal(room, at, magnitude(count))
+}
+
+// A further byte of an address, with the dot before it.
+fn put_part(room: &mut [u8], at: usize, part: u64) -> usize
+    ensures { λ r. ⌜ roomOf r (now (room .exit)) ≡ put (dot ∷ decimal part) (roomOf at (now (room .entry))) ⌝ }
+{
+    let next = put_byte(room, at, b'.');
+    put_decimal(room, next, part)
+}
+
+// An address in dotted form.
+fn put_dotted(room: &mut [u8], at: usize, address: u32) -> usize
+    ensures { λ r. ⌜ roomOf r (now (room .exit)) ≡ put (dotted address) (roomOf at (now (room .entry))) ⌝ }
+{
+    let next = put_decimal(room, at, (address / 16777216) as u64);
+    let next = put_part(room, next, (address / 65536 % 256) as u64);
+    let next = put_part(room, next, (address / 256 % 256) as u64);
+    put_part(room, next, (address % 256) as u64)
+}
+
+fn put_replaced(room: &mut [u8], at: usize, replaced: Replacement) -> usize
+    ensures { λ r. ⌜ roomOf r (now (room .exit)) ≡ put (orDash dotted (addressTold replaced)) (roomOf at (now (room .entry))) ⌝ }
+{
+    match replaced {
+        Replacement::None => put_byte(room, at, b'-'),
+        Replacement::Address(address) => put_dotted(room, at, address),
+    }
+}
+
+fn put_refusal(room: &mut [u8], at: usize, number: u8) -> usize
+    ensures { λ r. ⌜ roomOf r (now (room .exit)) ≡ put (refusalText number) (roomOf at (now (room .entry))) ⌝ }
+{
+    let next = put_byte(room, at, b'R');
+    let next = put_byte(room, next, b' ');
+    put_decimal(room, next, number as u64)
+}
+
+// A verdict's number, and a count and a replaced address after it.
+fn put_verdict(room: &mut [u8], at: usize, verdict: u8, count: i16, replaced: Replacement) -> usize
+    ensures { λ r. ⌜ roomOf r (now (room .exit))
+        ≡ put (decimal verdict ++ (space ∷ (signed count ++ (space ∷ orDash dotted (addressTold replaced))))) (roomOf at (now (room .entry))) ⌝ }
+{
+    let next = put_decimal(room, at, verdict as u64);
+    let next = put_byte(room, next, b' ');
+    let next = put_signed(room, next, count);
+    let next = put_byte(room, next, b' ');
+    put_replaced(room, next, replaced)
+}
+
+// Verdict 0, which has no count and replaces nothing.
+fn put_not_ours(room: &mut [u8], at: usize) -> usize
+    ensures { λ r. ⌜ roomOf r (now (room .exit)) ≡ put (verdictText 0 NotOurs) (roomOf at (now (room .entry))) ⌝ }
+{
+    let next = put_byte(room, at, b'0');
+    let next = put_byte(room, next, b' ');
+    let next = put_byte(room, next, b'-');
+    let next = put_byte(room, next, b' ');
+    put_byte(room, next, b'-')
+}
+
+fn put_answer(room: &mut [u8], at: usize, answer: Answer) -> usize
+    ensures { λ r. ⌜ roomOf r (now (room .exit)) ≡ put (answerText answer) (roomOf at (now (room .entry))) ⌝ }
+{
+    match answer {
+        Answer::Refused(number) => put_refusal(room, at, number),
+        Answer::NotOurs => put_not_ours(room, at),
+        Answer::Judged {
+            verdict,
+            count,
+            replaced,
+        } => put_verdict(room, at, verdicts::number(verdict), count, replaced),
+    }
+}
+
+// Puts the line of a record, by its number and what was answered.
+pub fn put_line(room: &mut [u8], at: usize, number: u64, answer: Answer) -> usize
+    ensures { λ r. ⌜ roomOf r (now (room .exit)) ≡ put (line number answer) (roomOf at (now (room .entry))) ⌝ }
+{
+    let next = put_decimal(room, at, number);
+    let next = put_byte(room, next, b' ');
+    let next = put_answer(room, next, answer);
+    put_byte(room, next, b'\n')
+}
+
+fn put_end(room: &mut [u8], at: usize) -> usize
+    ensures { λ r. ⌜ roomOf r (now (room .exit)) ≡ put end (roomOf at (now (room .entry))) ⌝ }
+{
+    let next = put_byte(room, at, b'e');
+    let next = put_byte(room, next, b'n');
+    let next = put_byte(room, next, b'd');
+    put_byte(room, next, b' ')
+}
+
+// Puts the last line: how many records were read whole, and how many refusals there were.
+pub fn put_last_line(room: &mut [u8], at: usize, records: u64, refusals: u64) -> usize
+    ensures { λ r. ⌜ roomOf r (now (room .exit)) ≡ put (lastLine records refusals) (roomOf at (now (room .entry))) ⌝ }
+{
+    let next = put_end(room, at);
+    let next = put_decimal(room, next, records);
+    let next = put_byte(room, next, b' ');
+    let next = put_decimal(room, next, refusals);
+    put_byte(room, next, b'\n')
+}
