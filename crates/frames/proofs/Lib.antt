@@ -1,0 +1,2 @@
+-- What the proof of a frame's judgment cites.
+pub mod Cases

@@ -1,0 +1,27 @@
+-- Document 01, "The printing program": its Ethernet frames. "neither reaches the gateway", so tables and clock stay as they are.
+-- Assumes nothing.
+use mathlib.Core.Bool.{cond}
+use mathlib.Core.List.{List}
+use Prim.Native.Nat.{ℕ}
+use lib.Dec.{eqb, ltb}
+use lib.ListN.{length, drop}
+use Rattle.words.specs.Words.{twoAt}
+use Rattle.settings.specs.declared.Settings.{Settings}
+use Rattle.rulings.specs.declared.answers.Answer.{Answer}
+use Rattle.rulings.specs.declared.answers.Answer.the-variants.{Refused, NotOurs}
+use Rattle.rulings.specs.Rules.{Rules}
+use Rattle.gateway.specs.Calls.{State, After, judged}
+
+-- the EtherType is the two bytes after the two addresses of six bytes each, and what the frame carries follows it
+abbrev pub etherType : List ℕ → ℕ
+etherType frame = twoAt frame 12
+
+abbrev pub carried : List ℕ → List ℕ
+carried frame = drop 14 frame
+
+-- "An Ethernet frame under 14 bytes is refused by 5; EtherType other than 0x0800 prints verdict 0"
+unfoldable pub frameJudged : (Settings → Rules) → Settings → List ℕ → List ℕ → ℕ → List ℕ → State → After Answer
+frameJudged rules settings cell plant time frame before =
+    cond (ltb (length frame) 14) (record { answer = Refused 5; state = before })
+    (cond (eqb (etherType frame) 0x0800) (judged rules settings cell plant time (carried frame) before)
+    (record { answer = NotOurs; state = before }))

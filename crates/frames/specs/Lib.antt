@@ -1,0 +1,2 @@
+-- What becomes of an Ethernet frame.
+pub mod Frames

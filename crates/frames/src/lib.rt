@@ -1,0 +1,43 @@
+// An Ethernet frame: what it carries is judged where that is IPv4. A frame that is too short, or carries something else, does not reach
+// the gateway.
+ghost use mathlib.Core.Path.{_≡_};
+ghost use Rattle.rulings.specs.Rules.{document01};
+ghost use Rattle.gateway.specs.Calls.{afterOf, stateOf};
+ghost use Rattle.frames.specs.Frames.{frameJudged};
+use rulings::answers::Answer;
+use settings::Settings;
+
+// Judges the packet of a frame that comes at a time.
+pub fn judge(
+    set: Settings,
+    cell: &[u8],
+    plant: &[u8],
+    records: &mut [u8],
+    tags: &mut [u32],
+    counts: &mut [i16],
+    clock: &mut u32,
+    time: u32,
+    frame: &[u8],
+) -> Answer
+    ensures { λ r. ⌜ afterOf r (now (records .exit)) (now (tags .exit)) (now (counts .exit)) (now (clock .exit))
+        ≡ frameJudged document01 set (now (cell .entry)) (now (plant .entry)) time (now (frame .entry))
+        (stateOf (now (records .entry)) (now (tags .entry)) (now (counts .entry)) (now (clock .entry))) ⌝ }
+{
+    if frame.len() < 14 {
+        return Answer::Refused(5);
+    }
+    if words::two_at(frame, 12) != 0x0800 {
+        return Answer::NotOurs;
+    }
+    gateway::judge(
+        set,
+        cell,
+        plant,
+        records,
+        tags,
+        counts,
+        clock,
+        time,
+        &frame[14..],
+    )
+}
