@@ -2,8 +2,10 @@
 -- Assumes nothing.
 use mathlib.Core.Path.{_≡_}
 use mathlib.Core.List.{List}
-use Prim.Native.Nat.{ℕ, _≤_, _<_}
-use lib.ListN.{length}
+use Prim.Native.Nat.{ℕ, _-_, _≤_, _<_}
+use lib.ListN.{length, take, drop, length-drop}
+use lib.Seq.{take-all}
+use native.Mathlib.Omega.{arith}
 use borrow.Author.Tests.{lt-ltb, le-ltb, eq-eqb, ne-eqb}
 use Rattle.settings.specs.declared.Settings.{Settings}
 use Rattle.rulings.specs.declared.answers.Answer.{Answer}
@@ -27,3 +29,7 @@ module _ (rules : Settings → Rules) (settings : Settings) (cell plant : List �
   pub ipv4 : 14 ≤ length frame → etherType frame ≡ 0x0800 → after ≡ judged rules settings cell plant time (carried frame) before
   unfolding frameJudged
   ipv4 h e = rw (le-ltb _ _ h, eq-eqb _ _ e)
+
+-- all the bytes from a place on
+pub all-from : (at : ℕ) (l : List ℕ) → take (length l - at) (drop at l) ≡ drop at l
+all-from at l = take-all (length l - at) (drop at l) (omega (arith, length-drop at l))

@@ -3,7 +3,7 @@
 use borrow.Author.Needs.{needs}
 use mathlib.Core.Path.{_∙_, sym}
 use native.Mathlib.Omega.{arith}
-use Rattle.frames.proofs.Cases.{too-short, another, ipv4}
+use Rattle.frames.proofs.Cases.{too-short, another, ipv4, all-from}
 use Rattle.frames.proofs.judge.Statement.{statement}
 use Rattle.frames.proofs.judge.Tie as tie
 use Rattle.words.proofs.Words.{there}
@@ -44,7 +44,8 @@ same-length-3 c = search needs
 returns-3 : tie.Need-returns-3
 returns-3 c = let whole = c .before .before .before .before .before .before .before .before .before .before .before .before .before .if1 .left in
     let type = c .before .before .before .before .before .before .before .before .before .before .before .before .two-at .ensures ∙ there 2 twoAt _ _ (omega (arith, whole)) in
-    rw (ipv4 _ _ _ _ _ _ _ whole (rw type at (c .before .before .before .before .before .before .before .before .before .before .before .if2 .left))) (c .before .before .before .before .before .judge .ensures)
+    rw (ipv4 _ _ _ _ _ _ _ whole (rw type at (c .before .before .before .before .before .before .before .before .before .before .before .if2 .left)))
+    (rw (all-from 14 (c .before .before .before .before .before .before .before .before .before .before .before .before .before .before .before .before .before .before .before .args .frame .now)) at (c .before .before .before .before .before .judge .ensures))
 
 pub judge-spec : {M : Type 1} → statement M
 judge-spec =

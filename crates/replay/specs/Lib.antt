@@ -1,0 +1,2 @@
+-- What becomes of a capture's records.
+pub mod Replay

@@ -1,0 +1,52 @@
+-- Document 01, "The printing program": how its gateway is set up, and what becomes of a capture's records.
+-- Assumes nothing.
+use mathlib.Core.Bool.{Bool, cond}
+use mathlib.Core.List.{List, [], _∷_}
+use Prim.Native.Nat.{ℕ, _-_}
+use lib.ListN.{take, drop}
+use Rattle.settings.specs.Settings.{factorySettings}
+use Rattle.capture.specs.declared.Cursor.{Cursor}
+use Rattle.capture.specs.declared.Record.{Record}
+use Rattle.capture.specs.declared.Reading.{Reading}
+use Rattle.capture.specs.declared.Reading.the-variants as reading
+use Rattle.capture.specs.Capture.{nextOf}
+use Rattle.rulings.specs.declared.answers.Answer.{Answer}
+use Rattle.rulings.specs.Rules.{document01}
+use Rattle.gateway.specs.Calls.{State, After, started}
+use Rattle.frames.specs.Frames.{frameJudged}
+use Rattle.replay.specs.declared.Step.{Step}
+use Rattle.replay.specs.declared.Step.the-variants.{End, Cut, Long, Judged}
+
+-- "cell 10.0.0.0/8, plant 192.168.0.0/16"
+abbrev pub cellList : List ℕ
+cellList = 10 ∷ (0 ∷ (0 ∷ (0 ∷ (8 ∷ []))))
+
+abbrev pub plantList : List ℕ
+plantList = 192 ∷ (168 ∷ (0 ∷ (0 ∷ (16 ∷ []))))
+
+-- it "starts cold at the first record's second, with factory settings"
+unfoldable pub startedFirst : Bool → ℕ → State → State
+startedFirst first time before = cond first (started factorySettings time before .state) before
+
+-- the bytes that were captured of a record
+abbrev pub frameIn : List ℕ → Record → List ℕ
+frameIn bytes r = take (r .end - r .from) (drop (r .from) bytes)
+
+-- a whole record's frame, judged at the record's second
+unfoldable pub recordJudged : Bool → List ℕ → Record → State → After Answer
+recordJudged first bytes r before =
+    frameJudged document01 factorySettings cellList plantList (r .seconds) (frameIn bytes r) (startedFirst first (r .seconds) before)
+
+-- a record that is judged, with what was answered
+abbrev pub judgedStep : Record → After Answer → After Step
+judgedStep r after = record { answer = Judged r (after .answer); state = after .state }
+
+abbrev pub byReading : Bool → List ℕ → Reading → State → After Step
+byReading first bytes reading.End before = record { answer = End; state = before }
+byReading first bytes reading.Cut before = record { answer = Cut; state = before }
+byReading first bytes reading.Long before = record { answer = Long; state = before }
+byReading first bytes (reading.Whole r) before = judgedStep r (recordJudged first bytes r before)
+
+-- one step: the record at the cursor, the first one or a further one
+unfoldable pub stepped : Bool → List ℕ → Cursor → State → After Step
+stepped first bytes cursor before = byReading first bytes (nextOf bytes cursor) before

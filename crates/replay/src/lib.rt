@@ -1,0 +1,98 @@
+// A capture's records, one after the other, judged by a gateway that is set up as document 01's printing program is.
+ghost use mathlib.Core.Path.{_≡_};
+ghost use Prim.Native.Nat.{_≤_};
+ghost use lib.ListN.{length};
+ghost use Rattle.gateway.specs.Calls.{afterOf, stateOf};
+ghost use Rattle.replay.specs.Replay.{startedFirst, recordJudged, stepped};
+use capture::Cursor;
+use capture::Reading;
+use capture::Record;
+use rulings::answers::Answer;
+use settings::Settings;
+
+const CELL: [u8; 5] = [10, 0, 0, 0, 8];
+
+const PLANT: [u8; 5] = [192, 168, 0, 0, 16];
+
+// What one step answers: that no byte is left, that a record is cut off or too long, or a whole record and what the gateway answered.
+pub enum Step {
+    End,
+    Cut,
+    Long,
+    Judged { record: Record, answer: Answer },
+}
+
+// Starts cold at the first record's second.
+fn start_first(
+    is_first: bool,
+    records: &mut [u8],
+    tags: &mut [u32],
+    counts: &mut [i16],
+    clock: &mut u32,
+    time: u32,
+)
+    ensures { λ _. ⌜ stateOf (now (records .exit)) (now (tags .exit)) (now (counts .exit)) (now (clock .exit))
+        ≡ startedFirst «is_first» time (stateOf (now (records .entry)) (now (tags .entry)) (now (counts .entry)) (now (clock .entry))) ⌝ }
+{
+    if is_first {
+        gateway::cold_start(Settings::factory(), records, tags, counts, clock, time);
+    }
+}
+
+// Judges a whole record's frame.
+fn judge_record(
+    bytes: &[u8],
+    record: Record,
+    is_first: bool,
+    records: &mut [u8],
+    tags: &mut [u32],
+    counts: &mut [i16],
+    clock: &mut u32,
+) -> Answer
+    requires { ⌜ (record .from ≤ record .end) × (record .end ≤ length (now bytes)) ⌝ }
+    ensures { λ r. ⌜ afterOf r (now (records .exit)) (now (tags .exit)) (now (counts .exit)) (now (clock .exit))
+        ≡ recordJudged «is_first» (now (bytes .entry)) record
+        (stateOf (now (records .entry)) (now (tags .entry)) (now (counts .entry)) (now (clock .entry))) ⌝ }
+{
+    let time = record.seconds;
+    let from = record.from;
+    let end = record.end;
+    start_first(is_first, records, tags, counts, clock, time);
+    let frame = &bytes[from..end];
+    frames::judge(
+        Settings::factory(),
+        &CELL,
+        &PLANT,
+        records,
+        tags,
+        counts,
+        clock,
+        time,
+        frame,
+    )
+}
+
+// Reads the record at the cursor and, where it is whole, judges it; the first one starts the gateway.
+pub fn next(
+    bytes: &[u8],
+    cursor: Cursor,
+    is_first: bool,
+    records: &mut [u8],
+    tags: &mut [u32],
+    counts: &mut [i16],
+    clock: &mut u32,
+) -> Step
+    ensures { λ r. ⌜ afterOf r (now (records .exit)) (now (tags .exit)) (now (counts .exit)) (now (clock .exit))
+        ≡ stepped «is_first» (now (bytes .entry)) cursor
+        (stateOf (now (records .entry)) (now (tags .entry)) (now (counts .entry)) (now (clock .entry))) ⌝ }
+{
+    match capture::next(bytes, cursor) {
+        Reading::End => Step::End,
+        Reading::Cut => Step::Cut,
+        Reading::Long => Step::Long,
+        Reading::Whole(record) => Step::Judged {
+            record,
+            answer: judge_record(bytes, record, is_first, records, tags, counts, clock),
+        },
+    }
+}
