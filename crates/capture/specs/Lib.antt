@@ -1,2 +1,3 @@
 -- What a capture is, and what reading it answers.
 pub mod Capture
+pub mod Whole
