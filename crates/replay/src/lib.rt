@@ -19,7 +19,7 @@ pub enum Step {
     End,
     Cut,
     Long,
-    Judged { record: Record, answer: Answer },
+    Judged { read: Record, answer: Answer },
 }
 
 // Starts cold at the first record's second.
@@ -42,21 +42,21 @@ fn start_first(
 // Judges a whole record's frame.
 fn judge_record(
     bytes: &[u8],
-    record: Record,
+    read: Record,
     is_first: bool,
     records: &mut [u8],
     tags: &mut [u32],
     counts: &mut [i16],
     clock: &mut u32,
 ) -> Answer
-    requires { ⌜ (record .from ≤ record .end) × (record .end ≤ length (now bytes)) ⌝ }
+    requires { ⌜ (read .from ≤ read .end) × (read .end ≤ length (now bytes)) ⌝ }
     ensures { λ r. ⌜ afterOf r (now (records .exit)) (now (tags .exit)) (now (counts .exit)) (now (clock .exit))
-        ≡ recordJudged «is_first» (now (bytes .entry)) record
+        ≡ recordJudged «is_first» (now (bytes .entry)) read
         (stateOf (now (records .entry)) (now (tags .entry)) (now (counts .entry)) (now (clock .entry))) ⌝ }
 {
-    let time = record.seconds;
-    let from = record.from;
-    let end = record.end;
+    let time = read.seconds;
+    let from = read.from;
+    let end = read.end;
     start_first(is_first, records, tags, counts, clock, time);
     let frame = &bytes[from..end];
     frames::judge(
@@ -90,9 +90,9 @@ pub fn next(
         Reading::End => Step::End,
         Reading::Cut => Step::Cut,
         Reading::Long => Step::Long,
-        Reading::Whole(record) => Step::Judged {
-            record,
-            answer: judge_record(bytes, record, is_first, records, tags, counts, clock),
+        Reading::Whole(read) => Step::Judged {
+            read,
+            answer: judge_record(bytes, read, is_first, records, tags, counts, clock),
         },
     }
 }

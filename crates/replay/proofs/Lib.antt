@@ -1,0 +1,2 @@
+-- What the proofs of a replay cite.
+pub mod Cases

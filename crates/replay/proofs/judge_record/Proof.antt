@@ -1,0 +1,59 @@
+-- `replay::judge_record` meets its contract: a start where it is due, and then the frame.
+-- Assumes nothing.
+use borrow.Author.Needs.{needs}
+use Rattle.replay.proofs.Cases.{judged-as}
+use Rattle.replay.proofs.judge_record.Statement.{statement}
+use Rattle.replay.proofs.judge_record.Tie as tie
+
+start-first-requires : tie.Need-start-first-requires
+start-first-requires c κs = search needs
+
+sub-frame : tie.Need-sub-frame
+sub-frame c = search needs
+
+part-frame-start : tie.Need-part-frame-start
+part-frame-start c = search needs
+
+part-frame-end : tie.Need-part-frame-end
+part-frame-end c = search needs
+
+factory-requires : tie.Need-factory-requires
+factory-requires c κs = search needs
+
+slice-aggregate-judge : tie.Need-slice-aggregate-judge
+slice-aggregate-judge c = search needs
+
+slice-aggregate-judge-2 : tie.Need-slice-aggregate-judge-2
+slice-aggregate-judge-2 c = search needs
+
+judge-requires : tie.Need-judge-requires
+judge-requires c κs = search needs
+
+same-length : tie.Need-same-length
+same-length c = search needs
+
+same-length-2 : tie.Need-same-length-2
+same-length-2 c = search needs
+
+same-length-3 : tie.Need-same-length-3
+same-length-3 c = search needs
+
+returns : tie.Need-returns
+returns c = judged-as _ _ (c .before .before .before .before .before .before .before .before .before .before .before .before .before .before .before .before .before .before .before .before .before .before .before .before .before .before .before .args .read) _ _ _ _ (c .before .before .before .before .before .before .before .before .before .before .before .before .factory .ensures .0) (c .before .before .before .before .before .before .before .before .before .before .before .before .before .before .before .before .before .before .before .start-first .ensures) (c .before .before .before .before .before .judge .ensures)
+
+pub judge-record-spec : {M : Type 1} → statement M
+judge-record-spec =
+    tie.close
+    (tie.spec
+    start-first-requires
+    sub-frame
+    part-frame-start
+    part-frame-end
+    factory-requires
+    slice-aggregate-judge
+    slice-aggregate-judge-2
+    judge-requires
+    same-length
+    same-length-2
+    same-length-3
+    returns)
