@@ -1,0 +1,85 @@
+-- What a record makes of how far printing has come, and what turns after one another make of it.
+-- Assumes nothing.
+use mathlib.Core.Bool.{Bool, true, false}
+use mathlib.Core.Path.{_≡_, refl}
+use mathlib.Core.List.{List}
+use Prim.Native.Nat.{ℕ, zero, suc, _+_, _-_, _≤_, _<_}
+use native.Mathlib.Omega.{arith}
+use lib.Dec.{eqb, leb}
+use lib.ListN.{length}
+use borrow.Author.Tests.{le-leb, lt-leb, leb-true, leb-false}
+use Rattle.rulings.specs.declared.answers.Answer.{Answer}
+use Rattle.rulings.specs.declared.answers.Answer.the-variants.{Refused}
+use Rattle.gateway.specs.Calls.{State}
+use Rattle.replay.specs.declared.Step.{Step}
+use Rattle.replay.specs.Replay.{stepped}
+use Rattle.lines.specs.Lines.{line}
+use Rattle.lines.specs.Room.{Room, roomOf, put}
+use Rattle.printing.specs.declared.Progress.{Progress}
+use Rattle.printing.specs.Printing.{isRefused, oneMore, Told, toldOf, tooLong, told, Printed, printedOf, toldBy, turned, longest, canGoOn, fed}
+
+module _ (p : Progress) (room : List ℕ) (number refusals : ℕ) (after : Room) where
+  pub stopped-as : number ≡ oneMore true (p .records) → refusals ≡ oneMore true (p .refusals)
+      → after ≡ put (line number (Refused 8)) (roomOf (p .put) room)
+      → toldOf
+      (record {
+        at = p .at;
+        put = after .end;
+        records = p .records;
+        refusals = refusals;
+        «goes_on» = false;
+        «is_over» = true;
+      })
+      (after .bytes) ≡ tooLong (toldOf p room)
+  stopped-as e f g = rw (g, e, f)
+
+  pub told-as : (end : ℕ) (answer : Answer) → number ≡ oneMore true (p .records) → refusals ≡ oneMore (isRefused answer) (p .refusals)
+      → after ≡ put (line number answer) (roomOf (p .put) room)
+      → toldOf
+      (record {
+        at = end;
+        put = after .end;
+        records = number;
+        refusals = refusals;
+        «goes_on» = p .«goes_on»;
+        «is_over» = p .«is_over»;
+      })
+      (after .bytes) ≡ told end answer (toldOf p room)
+  told-as end answer e f g = rw (g, e, f)
+
+-- ---- one turn
+pub turned-as : (bytes : List ℕ) (big : Bool) (p : Progress) (room : List ℕ) (before : State) (answer : Step) (after : State) (t : Told)
+    → record { answer = answer; state = after } ≡ stepped (eqb (p .records) 0) bytes (record { at = p .at; «big_endian» = big }) before
+    → t ≡ toldBy answer (toldOf p room)
+    → record { told = t; state = after } ≡ turned bytes big (printedOf p room before)
+unfolding turned
+turned-as bytes big p room before answer after t e f = rw (← e, f)
+
+-- ---- the turns
+pub no-room : (p : Progress) (length : ℕ) → length < p .put → canGoOn p length ≡ false
+no-room p length h = rw (lt-leb (p .put + longest) length (omega (arith, h)))
+
+pub room-left : (put length : ℕ) → put ≤ length → leb longest (length - put) ≡ leb (put + longest) length
+room-left put length h = go (leb (put + longest) length) refl
+  where
+    go : (q : Bool) → leb (put + longest) length ≡ q → leb longest (length - put) ≡ q
+    go true e = le-leb longest (length - put) (omega (arith, leb-true (put + longest) length e))
+    go false e = lt-leb longest (length - put) (omega (arith, h, leb-false (put + longest) length e))
+
+module _ (bytes : List ℕ) (big : Bool) (before : Printed) where
+  abbrev goes : Bool
+  goes = canGoOn (before .told .progress) (length (before .told .room))
+
+  pub goes-on : (turns : ℕ) → 0 < turns → goes ≡ true → fed turns bytes big before ≡ fed (turns - 1) bytes big (turned bytes big before)
+  unfolding fed
+  goes-on zero h e = absurd (omega (arith, h))
+  goes-on (suc turns) h e = let one : suc turns - 1 ≡ turns = omega arith in rw (e, one)
+
+  pub goes-no-further : (turns : ℕ) → goes ≡ false → fed turns bytes big before ≡ before
+  unfolding fed
+  goes-no-further zero e = refl
+  goes-no-further (suc turns) e = rw e
+
+  pub no-turns : (turns : ℕ) → turns ≡ 0 → fed turns bytes big before ≡ before
+  unfolding fed
+  no-turns turns e = rw e

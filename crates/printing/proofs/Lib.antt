@@ -1,0 +1,2 @@
+-- What the proofs of printing cite.
+pub mod Cases

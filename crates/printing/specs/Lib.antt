@@ -1,0 +1,2 @@
+-- What the printing program prints.
+pub mod Printing

@@ -1,0 +1,177 @@
+// What the printing program prints of a capture, into lent room: a line for each record of the bytes at hand, and the last lines.
+ghost use mathlib.Core.Path.{_≡_};
+ghost use lib.ListN.{length};
+ghost use Rattle.lines.specs.Room.{roomOf, put};
+ghost use Rattle.gateway.specs.Calls.{stateOf};
+ghost use Rattle.printing.specs.Printing.{isRefused, toldOf, oneMore, waiting, tooLong, told, printedOf, turned, canGoOn, fed, ending, headerRefused};
+use capture::Cursor;
+use replay::Step;
+use rulings::answers::Answer;
+
+// Room that any line fits into.
+const LONGEST: usize = 256;
+
+// How far printing has come: where the next record starts among the bytes at hand, how many bytes of lines were put, how many records
+// were read whole and how many refusals there were, whether the bytes at hand may hold another whole record, and whether it is over.
+pub struct Progress {
+    pub at: usize,
+    pub put: usize,
+    pub records: u64,
+    pub refusals: u64,
+    pub goes_on: bool,
+    pub is_over: bool,
+}
+
+fn is_refused(answer: Answer) -> bool
+    ensures { λ r. ⌜ r ≡ isRefused answer ⌝ }
+{
+    match answer {
+        Answer::Refused(number) => true,
+        Answer::NotOurs => false,
+        Answer::Judged {
+            verdict,
+            count,
+            replaced,
+        } => false,
+    }
+}
+
+// A number that counts what there is one more of, where that is so.
+fn counted(number: u64, is_one_more: bool) -> u64
+    ensures { λ r. ⌜ r ≡ oneMore «is_one_more» number ⌝ }
+{
+    if is_one_more {
+        std::num::wrapping_add_u64(number, 1)
+    } else {
+        number
+    }
+}
+
+// No whole record stands at the cursor: more bytes may bring one.
+fn waits(progress: Progress) -> Progress
+    ensures { λ r. ⌜ r ≡ waiting progress ⌝ }
+{
+    let mut next = progress;
+    next.goes_on = false;
+    next
+}
+
+// Puts the line of a record with too many captured bytes, which ends the printing.
+fn stop(room: &mut [u8], progress: Progress) -> Progress
+    ensures { λ r. ⌜ toldOf r (now (room .exit)) ≡ tooLong (toldOf progress (now (room .entry))) ⌝ }
+{
+    let number = counted(progress.records, true);
+    let mut next = progress;
+    next.put = lines::put_line(room, progress.put, number, Answer::Refused(8));
+    next.refusals = counted(progress.refusals, true);
+    next.goes_on = false;
+    next.is_over = true;
+    next
+}
+
+// Puts the line of a whole record, and goes on after its last byte.
+fn tell(room: &mut [u8], progress: Progress, end: usize, answer: Answer) -> Progress
+    ensures { λ r. ⌜ toldOf r (now (room .exit)) ≡ told end answer (toldOf progress (now (room .entry))) ⌝ }
+{
+    let number = counted(progress.records, true);
+    let mut next = progress;
+    next.at = end;
+    next.put = lines::put_line(room, progress.put, number, answer);
+    next.records = number;
+    next.refusals = counted(progress.refusals, is_refused(answer));
+    next
+}
+
+// Reads, judges and prints the record at the cursor.
+fn turn(
+    bytes: &[u8],
+    big_endian: bool,
+    room: &mut [u8],
+    records: &mut [u8],
+    tags: &mut [u32],
+    counts: &mut [i16],
+    clock: &mut u32,
+    progress: Progress,
+) -> Progress
+    ensures { λ r. ⌜ printedOf r (now (room .exit)) (stateOf (now (records .exit)) (now (tags .exit)) (now (counts .exit)) (now (clock .exit)))
+        ≡ turned (now (bytes .entry)) «big_endian» (printedOf progress (now (room .entry))
+        (stateOf (now (records .entry)) (now (tags .entry)) (now (counts .entry)) (now (clock .entry)))) ⌝ }
+{
+    let cursor = Cursor {
+        at: progress.at,
+        big_endian,
+    };
+    let is_first = progress.records == 0;
+    match replay::next(bytes, cursor, is_first, records, tags, counts, clock) {
+        Step::End => waits(progress),
+        Step::Cut => waits(progress),
+        Step::Long => stop(room, progress),
+        Step::Judged { read, answer } => tell(room, progress, read.end, answer),
+    }
+}
+
+// Whether the room has place for another line, and printing goes on.
+fn can_go_on(progress: Progress, length: usize) -> bool
+    ensures { λ r. ⌜ r ≡ canGoOn progress length ⌝ }
+{
+    if length < progress.put {
+        return false;
+    }
+    (LONGEST <= length - progress.put) & progress.goes_on
+}
+
+// Prints the whole records of the bytes at hand, while there is room. Each takes at least a byte, so as many turns as there are bytes
+// are enough.
+pub fn feed(
+    bytes: &[u8],
+    big_endian: bool,
+    room: &mut [u8],
+    records: &mut [u8],
+    tags: &mut [u32],
+    counts: &mut [i16],
+    clock: &mut u32,
+    progress: Progress,
+) -> Progress
+    ensures { λ r. ⌜ printedOf r (now (room .exit)) (stateOf (now (records .exit)) (now (tags .exit)) (now (counts .exit)) (now (clock .exit)))
+        ≡ fed (length (now (bytes .entry))) (now (bytes .entry)) «big_endian» (printedOf progress (now (room .entry))
+        (stateOf (now (records .entry)) (now (tags .entry)) (now (counts .entry)) (now (clock .entry)))) ⌝ }
+{
+    let mut left = bytes.len();
+    let mut reached = progress;
+    while 0 < left && can_go_on(reached, room.len()) {
+        reached = turn(
+            bytes,
+            big_endian,
+            room,
+            records,
+            tags,
+            counts,
+            clock,
+            reached,
+        );
+        left -= 1;
+    }
+    reached
+}
+
+// Puts the lines that end the printing: that of a record which is cut off, if one is, and the last line.
+pub fn finish(room: &mut [u8], progress: Progress, is_cut: bool) -> usize
+    ensures { λ r. ⌜ roomOf r (now (room .exit)) ≡ put (ending «is_cut» progress) (roomOf (progress .put) (now (room .entry))) ⌝ }
+{
+    let records = progress.records;
+    let refusals = progress.refusals;
+    if is_cut {
+        let number = counted(records, true);
+        let next = lines::put_line(room, progress.put, number, Answer::Refused(8));
+        return lines::put_last_line(room, next, records, counted(refusals, true));
+    }
+    lines::put_last_line(room, progress.put, records, refusals)
+}
+
+// Puts all that is printed of a capture whose header is refused.
+pub fn refuse(room: &mut [u8], number: u8) -> usize
+    ensures { λ r. ⌜ roomOf r (now (room .exit)) ≡ put (headerRefused number) (roomOf 0 (now (room .entry))) ⌝ }
+{
+    let next = lines::put_line(room, 0, 0, Answer::Refused(number));
+    lines::put_last_line(room, next, 0, 1)
+}
