@@ -27,13 +27,11 @@ impl Capture {
     /// A capture without records. Zone, accuracy and snap length decide nothing, so they hold junk.
     pub fn new(order: Order, random: &mut Random) -> Capture {
         let mut capture = Capture { bytes: Vec::new(), records: 0, order };
-        capture.word(0xa1b2_c3d4);
-        capture.half(2);
-        capture.half(4);
-        for _ in ["zone", "accuracy", "snap length"] {
-            capture.word(random.word());
-        }
-        capture.word(1);
+        capture.put([0xa1, 0xb2, 0xc3, 0xd4]);
+        capture.put([0, 2]);
+        capture.put([0, 4]);
+        capture.bytes.extend(random.bytes(12));
+        capture.put([0, 0, 0, 1]);
         capture
     }
 
@@ -41,29 +39,23 @@ impl Capture {
     pub fn record(&mut self, second: u32, frame: &[u8], random: &mut Random) {
         let captured = frame.len() as u32;
         let original = if random.chance(5) { random.word() } else { captured };
-        self.record_header(second, captured, original, random);
+        self.record_header([second, random.word(), captured, original]);
         self.bytes.extend(frame);
         self.records += 1;
     }
 
-    /// A record's header alone, as at a damaged end. The microseconds decide nothing either.
-    pub fn record_header(&mut self, second: u32, captured: u32, original: u32, random: &mut Random) {
-        for word in [second, random.word(), captured, original] {
-            self.word(word);
+    /// Second, microseconds, captured and original length: alone, as at a damaged end.
+    pub fn record_header(&mut self, words: [u32; 4]) {
+        for word in words {
+            self.put(word.to_be_bytes());
         }
     }
 
-    fn word(&mut self, word: u32) {
-        match self.order {
-            Order::Little => self.bytes.extend(word.to_le_bytes()),
-            Order::Big => self.bytes.extend(word.to_be_bytes()),
+    /// A number, given with its most significant byte first.
+    fn put<const N: usize>(&mut self, mut number: [u8; N]) {
+        if self.order == Order::Little {
+            number.reverse();
         }
-    }
-
-    fn half(&mut self, half: u16) {
-        match self.order {
-            Order::Little => self.bytes.extend(half.to_le_bytes()),
-            Order::Big => self.bytes.extend(half.to_be_bytes()),
-        }
+        self.bytes.extend(number);
     }
 }

@@ -1,12 +1,8 @@
 //! Numbers that look random and follow from a seed alone (splitmix64), so that a seed names the same capture everywhere.
 
-pub struct Random(u64);
+pub struct Random(pub u64);
 
 impl Random {
-    pub fn new(seed: u64) -> Random {
-        Random(seed)
-    }
-
     pub fn word(&mut self) -> u32 {
         self.0 = self.0.wrapping_add(0x9e37_79b9_7f4a_7c15);
         let mut mixed = self.0;
@@ -36,13 +32,12 @@ impl Random {
     /// An index, each as likely as its weight says.
     pub fn weighted(&mut self, weights: &[u32]) -> usize {
         let mut left = self.below(weights.iter().sum());
-        for (index, weight) in weights.iter().enumerate() {
-            if left < *weight {
-                return index;
-            }
-            left -= weight;
+        let mut index = 0;
+        while left >= weights[index] {
+            left -= weights[index];
+            index += 1;
         }
-        unreachable!("`left` starts below the sum of the weights")
+        index
     }
 
     pub fn bytes(&mut self, length: usize) -> Vec<u8> {

@@ -106,6 +106,13 @@ mod tests {
                 other[at] ^= 1;
                 assert_eq!(opens(&other), (8..20).contains(&at), "byte {at}");
             }
+            // The low bytes of the version: 2.4 alone is good.
+            let (major, minor) = if little { (4, 6) } else { (5, 7) };
+            for version in [(1, 4), (3, 4), (2, 3), (2, 5), (2, 4)] {
+                let mut other = good.clone();
+                (other[major], other[minor]) = version;
+                assert_eq!(opens(&other), version == (2, 4), "{version:?}");
+            }
             let mut nanoseconds = good.clone();
             let magic: [u8; 4] = [0xa1, 0xb2, 0x3c, 0x4d];
             for (at, byte) in magic.iter().enumerate() {

@@ -160,6 +160,26 @@ fn a_udp_fragment_is_plain_when_blocked() {
     assert_eq!(judged(&mut preset(5, PLANT_SEEN, 7), 7, &udp(CELL, PLANT)), told(6, 5));
 }
 
+/// Examples 4 to 6 on a gateway: keys all zero, then first key 1 and rest 0.
+#[test]
+fn keys_reach_slot_and_line() {
+    const FFFF: &[crate::sides::Entry] = &[(0xFFFF_FFFF, 32)];
+    const ZERO: &[crate::sides::Entry] = &[(0, 32)];
+    let contacted = |first_key, cell, plant| {
+        let mut settings = Settings::FACTORY;
+        settings.keys[0] = first_key;
+        let sides = Sides { cell, plant };
+        let mut gateway = Gateway::cold_start(settings, sides, 4096, 256, 0);
+        assert_eq!(judged(&mut gateway, 0, &udp(cell[0].0, plant[0].0)), told(4, 1));
+        let slot = gateway.slots.iter().position(|slot| slot.marks == CELL_SEEN);
+        let line = gateway.lines.iter().position(|line| !line.is_empty());
+        (slot, line)
+    };
+    assert_eq!(contacted(0, FFFF, ZERO), (Some(2457), Some(153)));
+    assert_eq!(contacted(1, FFFF, ZERO).1, Some(255));
+    assert_eq!(contacted(1, ZERO, FFFF).0, Some(4095));
+}
+
 #[test]
 fn the_port_is_the_plant_end_s() {
     let mut gateway = factory(0);
