@@ -2,3 +2,4 @@
 pub mod Rooms
 mod Digits
 mod Signs
+pub mod Whole

@@ -3,8 +3,6 @@ use capture::Opened;
 use libc::STDIN_FILENO;
 use libc::STDOUT_FILENO;
 use printing::Progress;
-ghost use Prim.Native.Nat.{_≤_};
-ghost use lib.ListN.{length};
 
 // How many bytes of input are held, how far printing has come, whether more bytes are wanted before another line can be printed, and
 // whether to go on: input has not ended, no record was too long, and every line so far was written.

@@ -1,2 +1,3 @@
 -- What the proofs of printing cite.
 pub mod Cases
+pub mod Whole

@@ -3,12 +3,11 @@
 use Prim.Native.Nat.{_-_, _≤_}
 use denote.Ref.{now}
 use lib.ListN.{length, length-set}
-use mathlib.Core.Path.{_≡_, refl, sym, _∙_, ap}
+use mathlib.Core.Path.{_≡_, refl, sym}
 use native.Mathlib.Omega.{arith}
 use Rattle.streams.proofs.Shifts.{backward, beyond, within, copied, none-yet, one-more}
 use Rattle.streams.proofs.shift.Statement.{statement}
 use Rattle.streams.proofs.shift.Tie as tie
-use Rattle.streams.specs.Streams.{heldOf}
 
 abbrev Inv-loop : tie.InvT-loop
 Inv-loop buffer₀ from end count done₀ buffer done = (done ≤ count) × (length buffer ≡ length buffer₀) × (buffer ≡ copied from buffer₀ done)
