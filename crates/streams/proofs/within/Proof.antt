@@ -6,7 +6,7 @@ use Rattle.streams.proofs.within.Statement.{statement}
 use Rattle.streams.proofs.within.Tie as tie
 
 returns : tie.Need-returns
-returns c = (counts _ _ (omega arith), omega arith)
+returns c = (counts (c .before .args .number) _ (omega arith), omega arith)
 
 returns-2 : tie.Need-returns-2
 returns-2 c = (counts _ _ (omega arith), omega arith)
