@@ -3,10 +3,9 @@
 ghost use mathlib.Core.Path.{_≡_};
 ghost use mathlib.Core.List.{_∷_, _++_};
 ghost use lib.IntN.{natAbs};
-ghost use Rattle.rulings.specs.declared.answers.Answer.the-variants.{NotOurs};
 ghost use Rattle.rulings.specs.Answers.{addressTold};
 ghost use Rattle.lines.specs.Text.{space, dot, decimal, signed, dotted, orDash};
-ghost use Rattle.lines.specs.Lines.{verdictText, refusalText, answerText, line, end, lastLine};
+ghost use Rattle.lines.specs.Lines.{refusalText, answerText, line, lastLine};
 ghost use Rattle.lines.specs.Room.{roomOf, putByte, put};
 use rulings::answers::Answer;
 use rulings::answers::Replacement;
@@ -19,6 +18,19 @@ fn put_byte(room: &mut [u8], at: usize, byte: u8) -> usize
         return at + 1;
     }
     at
+}
+
+// A text, byte by byte.
+fn put_text(room: &mut [u8], at: usize, text: &[u8]) -> usize
+    ensures { λ r. ⌜ roomOf r (now (room .exit)) ≡ put (now (text .entry)) (roomOf at (now (room .entry))) ⌝ }
+{
+    let mut next = at;
+    let mut done = 0;
+    while done < text.len() {
+        next = put_byte(room, next, text[done]);
+        done += 1;
+    }
+    next
 }
 
 // A number's decimal digits: those of a tenth of it, and the last.
@@ -84,8 +96,7 @@ fn put_replaced(room: &mut [u8], at: usize, replaced: Replacement) -> usize
 fn put_refusal(room: &mut [u8], at: usize, number: u8) -> usize
     ensures { λ r. ⌜ roomOf r (now (room .exit)) ≡ put (refusalText number) (roomOf at (now (room .entry))) ⌝ }
 {
-    let next = put_byte(room, at, b'R');
-    let next = put_byte(room, next, b' ');
+    let next = put_text(room, at, b"R ");
     put_decimal(room, next, number as u64)
 }
 
@@ -101,23 +112,12 @@ fn put_verdict(room: &mut [u8], at: usize, verdict: u8, count: i16, replaced: Re
     put_replaced(room, next, replaced)
 }
 
-// Verdict 0, which has no count and replaces nothing.
-fn put_not_ours(room: &mut [u8], at: usize) -> usize
-    ensures { λ r. ⌜ roomOf r (now (room .exit)) ≡ put (verdictText 0 NotOurs) (roomOf at (now (room .entry))) ⌝ }
-{
-    let next = put_byte(room, at, b'0');
-    let next = put_byte(room, next, b' ');
-    let next = put_byte(room, next, b'-');
-    let next = put_byte(room, next, b' ');
-    put_byte(room, next, b'-')
-}
-
 fn put_answer(room: &mut [u8], at: usize, answer: Answer) -> usize
     ensures { λ r. ⌜ roomOf r (now (room .exit)) ≡ put (answerText answer) (roomOf at (now (room .entry))) ⌝ }
 {
     match answer {
         Answer::Refused(number) => put_refusal(room, at, number),
-        Answer::NotOurs => put_not_ours(room, at),
+        Answer::NotOurs => put_text(room, at, b"0 - -"),
         Answer::Judged {
             verdict,
             count,
@@ -136,20 +136,11 @@ pub fn put_line(room: &mut [u8], at: usize, number: u64, answer: Answer) -> usiz
     put_byte(room, next, b'\n')
 }
 
-fn put_end(room: &mut [u8], at: usize) -> usize
-    ensures { λ r. ⌜ roomOf r (now (room .exit)) ≡ put end (roomOf at (now (room .entry))) ⌝ }
-{
-    let next = put_byte(room, at, b'e');
-    let next = put_byte(room, next, b'n');
-    let next = put_byte(room, next, b'd');
-    put_byte(room, next, b' ')
-}
-
 // Puts the last line: how many records were read whole, and how many refusals there were.
 pub fn put_last_line(room: &mut [u8], at: usize, records: u64, refusals: u64) -> usize
     ensures { λ r. ⌜ roomOf r (now (room .exit)) ≡ put (lastLine records refusals) (roomOf at (now (room .entry))) ⌝ }
 {
-    let next = put_end(room, at);
+    let next = put_text(room, at, b"end ");
     let next = put_decimal(room, next, records);
     let next = put_byte(room, next, b' ');
     let next = put_decimal(room, next, refusals);

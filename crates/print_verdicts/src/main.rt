@@ -115,7 +115,7 @@ fn end(room: &mut [u8], stage: Stage) {
     let progress = stage.progress;
     if stage.is_written {
         let is_cut = !progress.is_over & (0 < stage.held);
-        let put = printing::finish(room, anew(progress), is_cut);
+        let put = endings::put_ending(room, 0, progress.records, progress.refusals, is_cut);
         write_lines(room, put);
     }
 }
@@ -145,7 +145,7 @@ fn main() {
     let got = io::read_full(STDIN_FILENO, &mut header);
     match capture::open(&header[..got]) {
         Opened::Refused(number) => {
-            let put = printing::refuse(&mut room, number);
+            let put = endings::put_refused_header(&mut room, 0, number);
             write_lines(&room, put);
         }
         Opened::Open(cursor) => print(cursor.big_endian, &mut room),

@@ -1,6 +1,6 @@
 -- What a record makes of how far printing has come, and what turns after one another make of it.
 -- Assumes nothing.
-use mathlib.Core.Bool.{Bool, true, false}
+use mathlib.Core.Bool.{Bool, true, false, cond}
 use mathlib.Core.Path.{_≡_, refl}
 use mathlib.Core.List.{List}
 use Prim.Native.Nat.{ℕ, zero, suc, _+_, _-_, _≤_, _<_}
@@ -13,13 +13,14 @@ use Rattle.rulings.specs.declared.answers.Answer.the-variants.{Refused}
 use Rattle.gateway.specs.Calls.{State}
 use Rattle.replay.specs.declared.Step.{Step}
 use Rattle.replay.specs.Replay.{stepped}
+use Rattle.endings.specs.Endings.{oneMore}
 use Rattle.lines.specs.Lines.{line}
 use Rattle.lines.specs.Room.{Room, roomOf, put}
 use Rattle.printing.specs.declared.Progress.{Progress}
-use Rattle.printing.specs.Printing.{isRefused, oneMore, Told, toldOf, tooLong, told, Printed, printedOf, toldBy, turned, longest, canGoOn, fed}
+use Rattle.printing.specs.Printing.{isRefused, Told, toldOf, tooLong, told, Printed, printedOf, toldBy, turned, longest, canGoOn, fed}
 
 module _ (p : Progress) (room : List ℕ) (number refusals : ℕ) (after : Room) where
-  pub stopped-as : number ≡ oneMore true (p .records) → refusals ≡ oneMore true (p .refusals)
+  pub stopped-as : number ≡ oneMore (p .records) → refusals ≡ oneMore (p .refusals)
       → after ≡ put (line number (Refused 8)) (roomOf (p .put) room)
       → toldOf
       (record {
@@ -33,7 +34,7 @@ module _ (p : Progress) (room : List ℕ) (number refusals : ℕ) (after : Room)
       (after .bytes) ≡ tooLong (toldOf p room)
   stopped-as e f g = rw (g, e, f)
 
-  pub told-as : (end : ℕ) (answer : Answer) → number ≡ oneMore true (p .records) → refusals ≡ oneMore (isRefused answer) (p .refusals)
+  pub told-as : (end : ℕ) (answer : Answer) → number ≡ oneMore (p .records) → refusals ≡ cond (isRefused answer) (oneMore (p .refusals)) (p .refusals)
       → after ≡ put (line number answer) (roomOf (p .put) room)
       → toldOf
       (record {

@@ -9,11 +9,12 @@ use lib.Dec.{leb}
 use lib.ListN.{length, take, drop}
 use borrow.Author.Tests.{leb-true}
 use Rattle.rulings.specs.declared.answers.Answer.{Answer}
+use Rattle.endings.specs.Endings.{oneMore}
 use Rattle.lines.specs.Lines.{line}
 use Rattle.lines.specs.Room.{roomOf}
 use Rattle.lines.proofs.Whole.{InRange, whole, line-short}
 use Rattle.printing.specs.declared.Progress.{Progress}
-use Rattle.printing.specs.Printing.{oneMore, toldOf, lined, longest, canGoOn}
+use Rattle.printing.specs.Printing.{toldOf, lined, longest, canGoOn}
 
 first : (a b : Bool) → (a && b) ≡ true → a ≡ true
 first true b e = refl
@@ -21,9 +22,9 @@ first false b e = e
 
 -- the line of a record, with the next number, stands whole behind what was put before, and all other bytes of the room are as they were
 pub line-whole : (p : Progress) (room : List ℕ) (answer : Answer) → canGoOn p (length room) ≡ true → InRange answer
-    → let text : List ℕ = line (oneMore true (p .records)) answer in
+    → let text : List ℕ = line (oneMore (p .records)) answer in
     lined answer (toldOf p room) ≡ roomOf (p .put + length text) (take (p .put) room ++ text ++ drop (p .put + length text) room)
 line-whole p room answer goes range =
-    let number : oneMore true (p .records) < 2 ^ 64 = omega arith in
+    let number : oneMore (p .records) < 2 ^ 64 = omega arith in
     let there = leb-true (p .put + longest) (length room) (first (leb (p .put + longest) (length room)) (p .«goes_on») goes) in
-    whole (line (oneMore true (p .records)) answer) (p .put) room (omega (arith, there, line-short (oneMore true (p .records)) answer number range))
+    whole (line (oneMore (p .records)) answer) (p .put) room (omega (arith, there, line-short (oneMore (p .records)) answer number range))

@@ -1,15 +1,16 @@
 -- Document 01, "The printing program": what it prints of a capture, in bytes that may come piece by piece.
 -- Assumes nothing.
 use mathlib.Core.Bool.{Bool, true, false, cond, _&&_}
-use mathlib.Core.List.{List, _++_}
-use Prim.Native.Nat.{ℕ, zero, suc, _+_, _%_, _^_}
+use mathlib.Core.List.{List}
+use Prim.Native.Nat.{ℕ, zero, suc, _+_}
 use lib.Dec.{eqb, leb}
 use lib.ListN.{length}
 use Rattle.rulings.specs.declared.answers.Answer.{Answer}
 use Rattle.rulings.specs.declared.answers.Answer.the-variants.{Refused, NotOurs, Judged}
 use Rattle.gateway.specs.Calls.{State, After}
-use Rattle.lines.specs.Lines.{line, lastLine}
+use Rattle.lines.specs.Lines.{line}
 use Rattle.lines.specs.Room.{Room, roomOf, put}
+use Rattle.endings.specs.Endings.{oneMore}
 use Rattle.replay.specs.declared.Step.{Step}
 use Rattle.replay.specs.declared.Step.the-variants as step
 use Rattle.replay.specs.Replay.{stepped}
@@ -19,10 +20,6 @@ abbrev pub isRefused : Answer → Bool
 isRefused (Refused number) = true
 isRefused NotOurs = false
 isRefused (Judged verdict count replaced) = false
-
--- records and refusals are counted in 64 bits
-abbrev pub oneMore : Bool → ℕ → ℕ
-oneMore more number = cond more ((number + 1) % 2 ^ 64) number
 
 -- how far printing has come, and the room that lines are put into
 pub record Told : Type 0 where
@@ -35,7 +32,7 @@ toldOf progress room = record { progress = progress; room = room }
 -- ---- what one record makes of it
 -- a line with the number of the next record
 abbrev pub lined : Answer → Told → Room
-lined answer before = put (line (oneMore true (before .progress .records)) answer) (roomOf (before .progress .put) (before .room))
+lined answer before = put (line (oneMore (before .progress .records)) answer) (roomOf (before .progress .put) (before .room))
 
 -- no whole record stands at the cursor
 abbrev pub waiting : Progress → Progress
@@ -50,7 +47,7 @@ tooLong before =
       at = before .progress .at;
       put = lined (Refused 8) before .end;
       records = before .progress .records;
-      refusals = oneMore true (before .progress .refusals);
+      refusals = oneMore (before .progress .refusals);
       «goes_on» = false;
       «is_over» = true;
     })
@@ -63,8 +60,8 @@ told end answer before =
     (record {
       at = end;
       put = lined answer before .end;
-      records = oneMore true (before .progress .records);
-      refusals = oneMore (isRefused answer) (before .progress .refusals);
+      records = oneMore (before .progress .records);
+      refusals = cond (isRefused answer) (oneMore (before .progress .refusals)) (before .progress .refusals);
       «goes_on» = before .progress .«goes_on»;
       «is_over» = before .progress .«is_over»;
     })
@@ -106,15 +103,3 @@ unfoldable pub fed : ℕ → List ℕ → Bool → Printed → Printed
 fed zero bytes big before = before
 fed (suc turns) bytes big before =
     cond (canGoOn (before .told .progress) (length (before .told .room))) (fed turns bytes big (turned bytes big before)) before
-
--- ---- the end
--- the last line, and before it that of a record which is cut off: it has its own number, and was not read whole
-abbrev pub ending : Bool → Progress → List ℕ
-ending cut p =
-    cond cut
-    (line (oneMore true (p .records)) (Refused 8) ++ lastLine (p .records) (oneMore true (p .refusals)))
-    (lastLine (p .records) (p .refusals))
-
--- "Refusal 7 prints as record 0."
-abbrev pub headerRefused : ℕ → List ℕ
-headerRefused number = line 0 (Refused number) ++ lastLine 0 1

@@ -1,9 +1,10 @@
-// What the printing program prints of a capture, into lent room: a line for each record of the bytes at hand, and the last lines.
+// What the printing program prints of a capture, into lent room: a line for each record of the bytes at hand.
 ghost use mathlib.Core.Path.{_≡_};
 ghost use lib.ListN.{length};
-ghost use Rattle.lines.specs.Room.{roomOf, put};
+ghost use mathlib.Core.Bool.{cond};
+ghost use Rattle.endings.specs.Endings.{oneMore};
 ghost use Rattle.gateway.specs.Calls.{stateOf};
-ghost use Rattle.printing.specs.Printing.{isRefused, toldOf, oneMore, waiting, tooLong, told, printedOf, turned, canGoOn, fed, ending, headerRefused};
+ghost use Rattle.printing.specs.Printing.{isRefused, toldOf, waiting, tooLong, told, printedOf, turned, canGoOn, fed};
 use capture::Cursor;
 use replay::Step;
 use rulings::answers::Answer;
@@ -36,15 +37,14 @@ fn is_refused(answer: Answer) -> bool
     }
 }
 
-// A number that counts what there is one more of, where that is so.
-fn counted(number: u64, is_one_more: bool) -> u64
-    ensures { λ r. ⌜ r ≡ oneMore «is_one_more» number ⌝ }
+// One refusal more, where the answer is one.
+fn refusals_after(number: u64, answer: Answer) -> u64
+    ensures { λ r. ⌜ r ≡ cond (isRefused answer) (oneMore number) number ⌝ }
 {
-    if is_one_more {
-        std::num::wrapping_add_u64(number, 1)
-    } else {
-        number
+    if is_refused(answer) {
+        return endings::one_more(number);
     }
+    number
 }
 
 // No whole record stands at the cursor: more bytes may bring one.
@@ -60,10 +60,10 @@ fn waits(progress: Progress) -> Progress
 fn stop(room: &mut [u8], progress: Progress) -> Progress
     ensures { λ r. ⌜ toldOf r (now (room .exit)) ≡ tooLong (toldOf progress (now (room .entry))) ⌝ }
 {
-    let number = counted(progress.records, true);
+    let number = endings::one_more(progress.records);
     let mut next = progress;
     next.put = lines::put_line(room, progress.put, number, Answer::Refused(8));
-    next.refusals = counted(progress.refusals, true);
+    next.refusals = endings::one_more(progress.refusals);
     next.goes_on = false;
     next.is_over = true;
     next
@@ -73,12 +73,12 @@ fn stop(room: &mut [u8], progress: Progress) -> Progress
 fn tell(room: &mut [u8], progress: Progress, end: usize, answer: Answer) -> Progress
     ensures { λ r. ⌜ toldOf r (now (room .exit)) ≡ told end answer (toldOf progress (now (room .entry))) ⌝ }
 {
-    let number = counted(progress.records, true);
+    let number = endings::one_more(progress.records);
     let mut next = progress;
     next.at = end;
     next.put = lines::put_line(room, progress.put, number, answer);
     next.records = number;
-    next.refusals = counted(progress.refusals, is_refused(answer));
+    next.refusals = refusals_after(progress.refusals, answer);
     next
 }
 
@@ -152,26 +152,4 @@ pub fn feed(
         left -= 1;
     }
     reached
-}
-
-// Puts the lines that end the printing: that of a record which is cut off, if one is, and the last line.
-pub fn finish(room: &mut [u8], progress: Progress, is_cut: bool) -> usize
-    ensures { λ r. ⌜ roomOf r (now (room .exit)) ≡ put (ending «is_cut» progress) (roomOf (progress .put) (now (room .entry))) ⌝ }
-{
-    let records = progress.records;
-    let refusals = progress.refusals;
-    if is_cut {
-        let number = counted(records, true);
-        let next = lines::put_line(room, progress.put, number, Answer::Refused(8));
-        return lines::put_last_line(room, next, records, counted(refusals, true));
-    }
-    lines::put_last_line(room, progress.put, records, refusals)
-}
-
-// Puts all that is printed of a capture whose header is refused.
-pub fn refuse(room: &mut [u8], number: u8) -> usize
-    ensures { λ r. ⌜ roomOf r (now (room .exit)) ≡ put (headerRefused number) (roomOf 0 (now (room .entry))) ⌝ }
-{
-    let next = lines::put_line(room, 0, 0, Answer::Refused(number));
-    lines::put_last_line(room, next, 0, 1)
 }

@@ -5,6 +5,7 @@ use mir.Syntax.{w16}
 use mir.ValLaws.{toZ-ofZ}
 use Rattle.lines.proofs.put_answer.Statement.{statement}
 use Rattle.lines.proofs.put_answer.Tie as tie
+use Rattle.lines.specs.Text.{digitsIn}
 
 enum-known-answer : tie.Need-enum-known-answer
 enum-known-answer c = search needs
@@ -15,8 +16,11 @@ put-refusal-requires c κs = search needs
 enum-told : tie.Need-enum-told
 enum-told c = search needs
 
-put-not-ours-requires : tie.Need-put-not-ours-requires
-put-not-ours-requires c κs = search needs
+slice-aggregate-put-text : tie.Need-slice-aggregate-put-text
+slice-aggregate-put-text c = search needs
+
+put-text-requires : tie.Need-put-text-requires
+put-text-requires c κs = search needs
 
 enum-known-answer-2 : tie.Need-enum-known-answer-2
 enum-known-answer-2 c = search needs
@@ -37,7 +41,8 @@ same-length-2 : tie.Need-same-length-2
 same-length-2 c = search needs
 
 returns-2 : tie.Need-returns-2
-returns-2 c = rw (c .before .before .before .before .enum-told .given .1) (c .before .before .put-not-ours .ensures)
+unfolding digitsIn
+returns-2 c = rw (c .before .before .before .before .before .enum-told .given .1) (c .before .before .put-text .ensures)
 
 same-length-3 : tie.Need-same-length-3
 same-length-3 c = search needs
@@ -55,7 +60,8 @@ put-answer-spec =
     enum-known-answer
     put-refusal-requires
     enum-told
-    put-not-ours-requires
+    slice-aggregate-put-text
+    put-text-requires
     enum-known-answer-2
     number-requires
     put-verdict-requires

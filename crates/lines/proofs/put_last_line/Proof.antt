@@ -5,8 +5,11 @@ use Rattle.lines.proofs.Rooms.{text-then, byte-then, last-byte}
 use Rattle.lines.proofs.put_last_line.Statement.{statement}
 use Rattle.lines.proofs.put_last_line.Tie as tie
 
-put-end-requires : tie.Need-put-end-requires
-put-end-requires c κs = search needs
+slice-aggregate-put-text : tie.Need-slice-aggregate-put-text
+slice-aggregate-put-text c = search needs
+
+put-text-requires : tie.Need-put-text-requires
+put-text-requires c κs = search needs
 
 put-decimal-requires : tie.Need-put-decimal-requires
 put-decimal-requires c κs = search needs
@@ -24,7 +27,7 @@ same-length : tie.Need-same-length
 same-length c = search needs
 
 returns : tie.Need-returns
-returns c = text-then _ _ _ (c .before .before .before .before .before .before .before .before .before .before .before .before .before .before .before .before .before .before .put-end .ensures)
+returns c = text-then _ _ _ (c .before .before .before .before .before .before .before .before .before .before .before .before .before .before .before .before .before .before .put-text .ensures)
     (text-then _ _ _ (c .before .before .before .before .before .before .before .before .before .before .before .before .before .before .put-decimal .ensures)
     (byte-then _ _ _ (c .before .before .before .before .before .before .before .before .before .before .put-byte .ensures)
     (text-then _ _ _ (c .before .before .before .before .before .before .put-decimal2 .ensures)
@@ -34,7 +37,8 @@ pub put-last-line-spec : {M : Type 1} → statement M
 put-last-line-spec =
     tie.close
     (tie.spec
-    put-end-requires
+    slice-aggregate-put-text
+    put-text-requires
     put-decimal-requires
     put-byte-requires
     put-decimal-requires-2

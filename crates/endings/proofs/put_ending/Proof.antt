@@ -1,18 +1,18 @@
--- `printing::finish` meets its contract: one line, or two.
+-- `endings::put_ending` meets its contract: one line, or two.
 -- Assumes nothing.
 use borrow.Author.Needs.{needs}
+use Rattle.endings.proofs.put_ending.Statement.{statement}
+use Rattle.endings.proofs.put_ending.Tie as tie
 use Rattle.lines.proofs.Rooms.{text-then}
-use Rattle.printing.proofs.finish.Statement.{statement}
-use Rattle.printing.proofs.finish.Tie as tie
 
-counted-requires : tie.Need-counted-requires
-counted-requires c κs = search needs
+one-more-requires : tie.Need-one-more-requires
+one-more-requires c κs = search needs
 
 put-line-requires : tie.Need-put-line-requires
 put-line-requires c κs = search needs
 
-counted-requires-2 : tie.Need-counted-requires-2
-counted-requires-2 c κs = search needs
+one-more-requires-2 : tie.Need-one-more-requires-2
+one-more-requires-2 c κs = search needs
 
 put-last-line-requires : tie.Need-put-last-line-requires
 put-last-line-requires c κs = search needs
@@ -22,7 +22,7 @@ same-length c = search needs
 
 returns : tie.Need-returns
 returns c = rw (c .before .before .before .before .before .before .before .before .before .before .if1 .taken)
-    (text-then _ _ _ (rw (c .before .before .before .before .before .before .before .before .before .counted .ensures) at (c .before .before .before .before .before .before .before .put-line .ensures)) (rw (c .before .before .before .counted2 .ensures) at (c .before .before .put-last-line .ensures)))
+    (text-then _ _ _ (rw (c .before .before .before .before .before .before .before .before .one-more .ensures) at (c .before .before .before .before .before .before .before .put-line .ensures)) (rw (c .before .before .before .one-more2 .ensures) at (c .before .before .put-last-line .ensures)))
 
 put-last-line-requires-2 : tie.Need-put-last-line-requires-2
 put-last-line-requires-2 c κs = search needs
@@ -33,13 +33,13 @@ same-length-2 c = search needs
 returns-2 : tie.Need-returns-2
 returns-2 c = rw (c .before .before .before .before .if1 .left) (c .before .before .put-last-line2 .ensures)
 
-pub finish-spec : {M : Type 1} → statement M
-finish-spec =
+pub put-ending-spec : {M : Type 1} → statement M
+put-ending-spec =
     tie.close
     (tie.spec
-    counted-requires
+    one-more-requires
     put-line-requires
-    counted-requires-2
+    one-more-requires-2
     put-last-line-requires
     same-length
     returns

@@ -1,9 +1,9 @@
--- `printing::refuse` meets its contract: two lines.
+-- `endings::put_refused_header` meets its contract: two lines.
 -- Assumes nothing.
 use borrow.Author.Needs.{needs}
+use Rattle.endings.proofs.put_refused_header.Statement.{statement}
+use Rattle.endings.proofs.put_refused_header.Tie as tie
 use Rattle.lines.proofs.Rooms.{text-then}
-use Rattle.printing.proofs.refuse.Statement.{statement}
-use Rattle.printing.proofs.refuse.Tie as tie
 
 put-line-requires : tie.Need-put-line-requires
 put-line-requires c κs = search needs
@@ -17,5 +17,6 @@ same-length c = search needs
 returns : tie.Need-returns
 returns c = text-then _ _ _ (c .before .before .before .before .before .before .put-line .ensures) (c .before .before .put-last-line .ensures)
 
-pub refuse-spec : {M : Type 1} → statement M
-refuse-spec = tie.close (tie.spec put-line-requires put-last-line-requires same-length returns)
+pub put-refused-header-spec : {M : Type 1} → statement M
+put-refused-header-spec =
+    tie.close (tie.spec put-line-requires put-last-line-requires same-length returns)

@@ -1,0 +1,31 @@
+// The lines that end what the printing program prints, put into lent room from a place on.
+ghost use mathlib.Core.Path.{_≡_};
+ghost use Rattle.lines.specs.Room.{roomOf, put};
+ghost use Rattle.endings.specs.Endings.{oneMore, ending, headerRefused};
+use rulings::answers::Answer;
+
+// One more of what is counted in 64 bits.
+pub fn one_more(number: u64) -> u64
+    ensures { λ r. ⌜ r ≡ oneMore number ⌝ }
+{
+    std::num::wrapping_add_u64(number, 1)
+}
+
+// Puts the lines for when no more bytes come: that of a record which is cut off, if one is, and the last line.
+pub fn put_ending(room: &mut [u8], at: usize, records: u64, refusals: u64, is_cut: bool) -> usize
+    ensures { λ r. ⌜ roomOf r (now (room .exit)) ≡ put (ending «is_cut» records refusals) (roomOf at (now (room .entry))) ⌝ }
+{
+    if is_cut {
+        let next = lines::put_line(room, at, one_more(records), Answer::Refused(8));
+        return lines::put_last_line(room, next, records, one_more(refusals));
+    }
+    lines::put_last_line(room, at, records, refusals)
+}
+
+// Puts all that is printed of a capture whose header is refused.
+pub fn put_refused_header(room: &mut [u8], at: usize, number: u8) -> usize
+    ensures { λ r. ⌜ roomOf r (now (room .exit)) ≡ put (headerRefused number) (roomOf at (now (room .entry))) ⌝ }
+{
+    let next = lines::put_line(room, at, 0, Answer::Refused(number));
+    lines::put_last_line(room, next, 0, 1)
+}
