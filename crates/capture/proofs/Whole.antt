@@ -1,4 +1,4 @@
--- "Reading a whole capture's records in turn ends, never passes the end, and covers every byte that it does not refuse."
+-- Reading a whole capture in turn ends, never passes its end, and covers every byte that it does not refuse.
 -- Assumes nothing.
 use mathlib.Core.Bool.{Bool, true, false, cond}
 use mathlib.Core.List.{List, [], _∷_, _++_, append-assoc}

@@ -1,4 +1,4 @@
--- Document 01, refusals 7 and 8: "Captures are classic pcap, version 2.4." Places of the words are those of that format.
+-- Document 01, "Captures are classic pcap, version 2.4.", and refusals 7 and 8. Places of the words are those of that format.
 -- Assumes nothing.
 use mathlib.Core.Bool.{Bool, true, cond, not, _||_}
 use mathlib.Core.List.{List}

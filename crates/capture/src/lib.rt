@@ -36,8 +36,8 @@ pub struct Record {
     pub end: usize,
 }
 
-// What reading a record answers: that no byte is left, that a record is cut off by the end of the bytes, that it has too many captured bytes,
-// or the record.
+// What reading a record answers: that no byte is left, that the record is cut off by the end of the bytes, that it has too many captured
+// bytes, or the record.
 pub enum Reading {
     End,
     Cut,
@@ -74,7 +74,7 @@ pub fn open(bytes: &[u8]) -> Opened
     })
 }
 
-// What a record's header says, where it is all there. No record ends before its header does: the end is that of its captured bytes.
+// What a record's header says, where it is all there.
 fn head_at(bytes: &[u8], at: usize, big_endian: bool) -> Record
     requires { ⌜ at + 16 ≤ length (now bytes) ⌝ }
     ensures { λ r. ⌜ r ≡ headAt «big_endian» at (now (bytes .entry)) ⌝ }

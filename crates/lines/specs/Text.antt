@@ -35,9 +35,10 @@ signed (negsuc n) = dash ∷ decimal (suc n)
 -- "address in dotted form": the numbers of its four bytes, the most significant first
 abbrev pub dotted : ℕ → List ℕ
 dotted address =
-    decimal (address / 16777216) ++ (dot ∷ (decimal (address / 65536 % 256) ++ (dot ∷ (decimal (address / 256 % 256) ++ (dot ∷ decimal (address % 256))))))
+    decimal (address / 16777216)
+    ++ (dot ∷ (decimal (address / 65536 % 256) ++ (dot ∷ (decimal (address / 256 % 256) ++ (dot ∷ decimal (address % 256))))))
 
--- "-" for a value that has none"
+-- "-" for a value that has none
 abbrev pub orDash : {A : Type 0} → (A → List ℕ) → Option A → List ℕ
 orDash text none = dash ∷ []
 orDash text (some value) = text value

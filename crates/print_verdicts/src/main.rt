@@ -4,8 +4,8 @@ use libc::STDIN_FILENO;
 use libc::STDOUT_FILENO;
 use printing::Progress;
 
-// How many bytes of input are held, how far printing has come, whether more bytes are wanted before another line can be printed, and
-// whether to go on: input has not ended, no record was too long, and every line so far was written.
+// How many bytes of input are held, how far printing has come, whether more bytes are wanted before another line can be printed, whether to
+// go on (input has not ended, no record was too long), and whether every line so far was written.
 struct Stage {
     held: usize,
     progress: Progress,
@@ -21,7 +21,7 @@ fn anew(progress: Progress) -> Progress {
         put: 0,
         records: progress.records,
         refusals: progress.refusals,
-        goes_on: true,
+        has_more: true,
         is_over: progress.is_over,
     }
 }
@@ -71,7 +71,7 @@ fn turn(
     Stage {
         held,
         progress,
-        wants_bytes: !progress.goes_on,
+        wants_bytes: !progress.has_more | (held == 0),
         goes_on: is_written & !progress.is_over & !has_ended,
         is_written,
     }
@@ -95,7 +95,7 @@ fn run(
             put: 0,
             records: 0,
             refusals: 0,
-            goes_on: true,
+            has_more: true,
             is_over: false,
         },
         wants_bytes: true,
@@ -140,7 +140,7 @@ fn print(big_endian: bool, room: &mut [u8]) {
 }
 
 fn main() {
-    let mut room = [0u8; 262144];
+    let mut room = io::large_buffer();
     let mut header = [0u8; 24];
     let got = io::read_full(STDIN_FILENO, &mut header);
     match capture::open(&header[..got]) {

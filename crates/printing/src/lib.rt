@@ -4,13 +4,14 @@ ghost use lib.ListN.{length};
 ghost use mathlib.Core.Bool.{cond};
 ghost use Rattle.endings.specs.Endings.{oneMore};
 ghost use Rattle.gateway.specs.Calls.{stateOf};
-ghost use Rattle.printing.specs.Printing.{isRefused, toldOf, waiting, tooLong, told, printedOf, turned, canGoOn, fed};
+ghost use Rattle.printing.specs.Printing.{isRefused, pageOf, waiting, tooLong, told, printedOf, turned};
+ghost use Rattle.printing.specs.Printing.{canGoOn, fed};
 use capture::Cursor;
 use replay::Step;
 use rulings::answers::Answer;
 
-// Room that any line fits into.
-const LONGEST: usize = 256;
+// Room in which any line has place: the longest has 46 bytes.
+const LINE_ROOM: usize = 256;
 
 // How far printing has come: where the next record starts among the bytes at hand, how many bytes of lines were put, how many records
 // were read whole and how many refusals there were, whether the bytes at hand may hold another whole record, and whether it is over.
@@ -19,7 +20,7 @@ pub struct Progress {
     pub put: usize,
     pub records: u64,
     pub refusals: u64,
-    pub goes_on: bool,
+    pub has_more: bool,
     pub is_over: bool,
 }
 
@@ -52,26 +53,26 @@ fn waits(progress: Progress) -> Progress
     ensures { λ r. ⌜ r ≡ waiting progress ⌝ }
 {
     let mut next = progress;
-    next.goes_on = false;
+    next.has_more = false;
     next
 }
 
 // Puts the line of a record with too many captured bytes, which ends the printing.
 fn stop(room: &mut [u8], progress: Progress) -> Progress
-    ensures { λ r. ⌜ toldOf r (now (room .exit)) ≡ tooLong (toldOf progress (now (room .entry))) ⌝ }
+    ensures { λ r. ⌜ pageOf r (now (room .exit)) ≡ tooLong (pageOf progress (now (room .entry))) ⌝ }
 {
     let number = endings::one_more(progress.records);
     let mut next = progress;
     next.put = lines::put_line(room, progress.put, number, Answer::Refused(8));
     next.refusals = endings::one_more(progress.refusals);
-    next.goes_on = false;
+    next.has_more = false;
     next.is_over = true;
     next
 }
 
 // Puts the line of a whole record, and goes on after its last byte.
 fn tell(room: &mut [u8], progress: Progress, end: usize, answer: Answer) -> Progress
-    ensures { λ r. ⌜ toldOf r (now (room .exit)) ≡ told end answer (toldOf progress (now (room .entry))) ⌝ }
+    ensures { λ r. ⌜ pageOf r (now (room .exit)) ≡ told end answer (pageOf progress (now (room .entry))) ⌝ }
 {
     let number = endings::one_more(progress.records);
     let mut next = progress;
@@ -117,11 +118,11 @@ fn can_go_on(progress: Progress, length: usize) -> bool
     if length < progress.put {
         return false;
     }
-    (LONGEST <= length - progress.put) & progress.goes_on
+    (LINE_ROOM <= length - progress.put) & progress.has_more
 }
 
-// Prints the whole records of the bytes at hand, while there is room. Each takes at least a byte, so as many turns as there are bytes
-// are enough.
+// Prints the whole records of the bytes at hand, while there is room, in at most as many turns as there are bytes. Of one byte or more that
+// is enough: each record takes sixteen, and what is left of fewer takes the last turn. With no byte at hand nothing is done.
 pub fn feed(
     bytes: &[u8],
     big_endian: bool,

@@ -1,7 +1,7 @@
 // Standard input in pieces, through a buffer that holds what was read and not yet used.
 ghost use mathlib.Core.Path.{_≡_};
-ghost use Prim.Native.Nat.{min};
-ghost use lib.ListN.{length};
+ghost use Prim.Native.Nat.{_≤_, min};
+ghost use lib.ListN.{length, take};
 ghost use Rattle.io.specs.Counts.{Counts};
 ghost use Rattle.streams.specs.Streams.{heldOf, shifted};
 use libc::STDIN_FILENO;
@@ -25,9 +25,12 @@ pub fn shift(buffer: &mut [u8], from: usize, end: usize) -> usize
     count
 }
 
-// Reads once, behind so many bytes that the buffer holds, and answers how many it holds then. No contract can say what is read.
+// Reads once, behind so many bytes that the buffer holds, and answers how many it holds then: these stay as they are. No contract can say
+// what is read.
 pub fn fill(buffer: &mut [u8], held: usize) -> usize
     ensures { λ r. ⌜ Counts r (now (buffer .exit)) ⌝ }
+    ensures { λ r. ⌜ (held ≤ length (now (buffer .entry)) → held ≤ r) ⌝ }
+    ensures { λ r. ⌜ take held (now (buffer .exit)) ≡ take held (now (buffer .entry)) ⌝ }
 {
     if buffer.len() < held {
         return 0;

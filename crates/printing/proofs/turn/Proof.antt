@@ -6,7 +6,7 @@ use mathlib.Core.Path.{ap}
 use Rattle.printing.proofs.Cases.{turned-as}
 use Rattle.printing.proofs.turn.Statement.{statement}
 use Rattle.printing.proofs.turn.Tie as tie
-use Rattle.printing.specs.Printing.{toldOf}
+use Rattle.printing.specs.Printing.{pageOf}
 use Rattle.printing.specs.declared.Progress.{Progress}
 
 next-requires : tie.Need-next-requires
@@ -48,7 +48,7 @@ same-length-3 c = search needs
 returns : tie.Need-returns
 returns c = let s = c .before .before .before .before .before .before .before .before .before .before .before .before .before .before .before .before .before .before in
     turned-as _ _ (s .args .progress) _ _ _ _ _ (c .before .before .before .before .before .before .before .before .next .ensures)
-    (rw (c .before .enum-told .given .1) (ap (λ (p : Progress). toldOf p (now (s .args .room))) (c .waits .ensures)))
+    (rw (c .before .enum-told .given .1) (ap (λ (p : Progress). pageOf p (now (s .args .room))) (c .waits .ensures)))
 
 same-length-4 : tie.Need-same-length-4
 same-length-4 c = search needs
@@ -62,7 +62,7 @@ same-length-6 c = search needs
 returns-2 : tie.Need-returns-2
 returns-2 c = let s = c .before .before .before .before .before .before .before .before .before .before .before .before .before .before .before .before .before .before in
     turned-as _ _ (s .args .progress) _ _ _ _ _ (c .before .before .before .before .before .before .before .before .next .ensures)
-    (rw (c .before .enum-told2 .given .1) (ap (λ (p : Progress). toldOf p (now (s .args .room))) (c .waits2 .ensures)))
+    (rw (c .before .enum-told2 .given .1) (ap (λ (p : Progress). pageOf p (now (s .args .room))) (c .waits2 .ensures)))
 
 same-length-7 : tie.Need-same-length-7
 same-length-7 c = search needs

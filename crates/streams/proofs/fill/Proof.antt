@@ -1,13 +1,18 @@
--- `streams::fill` meets its contract: what it reads stands within the buffer.
+-- `streams::fill` meets its contract: what it reads stands within the buffer, behind the bytes that it holds.
 -- Assumes nothing.
+use Prim.Native.Nat.{_-_}
 use borrow.Author.Needs.{needs}
+use borrow.Rule.Slice.PartMut.{take-put}
+use denote.Ref.{now}
+use lib.ListN.{length}
+use mathlib.Core.Path.{refl}
 use native.Mathlib.Omega.{arith}
 use Rattle.streams.proofs.Shifts.{counts}
 use Rattle.streams.proofs.fill.Statement.{statement}
 use Rattle.streams.proofs.fill.Tie as tie
 
 returns : tie.Need-returns
-returns c = search needs
+returns c = (counts 0 (now (c .before .before .args .buffer)) (omega arith), ((λ h. absurd (omega (arith, h, c .if1 .taken))), refl))
 
 sub-read : tie.Need-sub-read
 sub-read c = search needs
@@ -40,7 +45,8 @@ same-length : tie.Need-same-length
 same-length c = search needs
 
 returns-2 : tie.Need-returns-2
-returns-2 c = counts _ _ (omega arith)
+returns-2 c = let s = c .before .before .before .before .before .before .before .before .before in
+    (counts _ _ (omega arith), ((λ h. omega arith), take-put (s .args .held) (length (now (s .args .buffer)) - s .args .held) (now (s .args .buffer)) (c .before .before .before .before .before .read .last .1 .0) (c .before .before .before .before .before .before .before .if1 .left)))
 
 pub fill-spec : {M : Type 1} → statement M
 fill-spec =
