@@ -7,6 +7,7 @@ use Rattle.printing.proofs.Cases.{turned-as}
 use Rattle.printing.proofs.turn.Statement.{statement}
 use Rattle.printing.proofs.turn.Tie as tie
 use Rattle.printing.specs.Printing.{pageOf}
+use Rattle.gateway.specs.Calls.{stateOf}
 use Rattle.printing.specs.declared.Progress.{Progress}
 
 next-requires : tie.Need-next-requires
@@ -47,7 +48,8 @@ same-length-3 c = search needs
 
 returns : tie.Need-returns
 returns c = let s = c .before .before .before .before .before .before .before .before .before .before .before .before .before .before .before .before .before .before in
-    turned-as _ _ (s .args .progress) _ _ _ _ _ (c .before .before .before .before .before .before .before .before .next .ensures)
+    turned-as (now (s .args .bytes)) (s .args .big-endian) (s .args .progress) (now (s .args .room))
+    (stateOf (now (s .args .records)) (now (s .args .tags)) (now (s .args .counts)) (now (s .args .clock))) _ _ _ (c .before .before .before .before .before .before .before .before .next .ensures)
     (rw (c .before .enum-told .given .1) (ap (λ (p : Progress). pageOf p (now (s .args .room))) (c .waits .ensures)))
 
 same-length-4 : tie.Need-same-length-4
@@ -61,7 +63,8 @@ same-length-6 c = search needs
 
 returns-2 : tie.Need-returns-2
 returns-2 c = let s = c .before .before .before .before .before .before .before .before .before .before .before .before .before .before .before .before .before .before in
-    turned-as _ _ (s .args .progress) _ _ _ _ _ (c .before .before .before .before .before .before .before .before .next .ensures)
+    turned-as (now (s .args .bytes)) (s .args .big-endian) (s .args .progress) (now (s .args .room))
+    (stateOf (now (s .args .records)) (now (s .args .tags)) (now (s .args .counts)) (now (s .args .clock))) _ _ _ (c .before .before .before .before .before .before .before .before .next .ensures)
     (rw (c .before .enum-told2 .given .1) (ap (λ (p : Progress). pageOf p (now (s .args .room))) (c .waits2 .ensures)))
 
 same-length-7 : tie.Need-same-length-7
@@ -78,7 +81,8 @@ same-length-10 c = search needs
 
 returns-3 : tie.Need-returns-3
 returns-3 c = let s = c .before .before .before .before .before .before .before .before .before .before .before .before .before .before .before .before .before .before .before .before .before in
-    turned-as _ _ (s .args .progress) _ _ _ _ _ (c .before .before .before .before .before .before .before .before .before .before .before .next .ensures)
+    turned-as (now (s .args .bytes)) (s .args .big-endian) (s .args .progress) (now (s .args .room))
+    (stateOf (now (s .args .records)) (now (s .args .tags)) (now (s .args .counts)) (now (s .args .clock))) _ _ _ (c .before .before .before .before .before .before .before .before .before .before .before .next .ensures)
     (rw (c .before .before .before .before .enum-told3 .given .1) (c .before .before .stop .ensures))
 
 same-length-11 : tie.Need-same-length-11
@@ -95,7 +99,8 @@ same-length-14 c = search needs
 
 returns-4 : tie.Need-returns-4
 returns-4 c = let s = c .before .before .before .before .before .before .before .before .before .before .before .before .before .before .before .before .before .before .before .before .before .before in
-    turned-as _ _ (s .args .progress) _ _ _ _ _ (c .before .before .before .before .before .before .before .before .before .before .before .before .next .ensures)
+    turned-as (now (s .args .bytes)) (s .args .big-endian) (s .args .progress) (now (s .args .room))
+    (stateOf (now (s .args .records)) (now (s .args .tags)) (now (s .args .counts)) (now (s .args .clock))) _ _ _ (c .before .before .before .before .before .before .before .before .before .before .before .before .next .ensures)
     (rw (c .before .before .before .before .before .read .given .1) (c .before .before .tell .ensures))
 
 pub turn-spec : {M : Type 1} → statement M
