@@ -11,6 +11,7 @@ use Rattle.capture.specs.declared.Reading.{Reading}
 use Rattle.capture.specs.declared.Reading.the-variants as reading
 use Rattle.capture.specs.Capture.{nextOf}
 use Rattle.rulings.specs.declared.answers.Answer.{Answer}
+use Rattle.rulings.specs.Answers.{refusalTold}
 use Rattle.rulings.specs.Rules.{document01}
 use Rattle.gateway.specs.Calls.{State, After, started}
 use Rattle.frames.specs.Frames.{frameJudged}
@@ -50,3 +51,10 @@ byReading first bytes (reading.Whole r) before = judgedStep r (recordJudged firs
 -- one step: the record at the cursor, the first one or a further one
 unfoldable pub stepped : Bool → List ℕ → Cursor → State → After Step
 stepped first bytes cursor before = byReading first bytes (nextOf bytes cursor) before
+
+-- the paper's number for each case of a step: that of its refusal, and 0 for what is not refused
+abbrev pub stepRefusal : Step → ℕ
+stepRefusal End = 0
+stepRefusal Cut = 8
+stepRefusal Long = 8
+stepRefusal (Judged r answer) = refusalTold answer
