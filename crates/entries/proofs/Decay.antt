@@ -16,33 +16,34 @@ use Rattle.counts.proofs.Counts.{fell}
 use Rattle.entries.specs.Entries.{lineOf, lacksLine, ownWay, countIn, countOf}
 
 -- what is not positive tells whether an entry is empty, and that stays
-by-dn : (z : ℤ) → isEmpty z ≡ eqb (dn z) 32768
+pub by-dn : (z : ℤ) → isEmpty z ≡ eqb (dn z) 32768
 unfolding isEmpty
 by-dn (pos n) = refl
 by-dn (negsuc n) = refl
 
+-- an element of a line, in the list
+pub in-line : {A : Type 0} (line : ℕ) (xs : List A) (way : ℕ) (d : A) → way < 4 → getD (lineOf line xs) way d ≡ getD xs (4 * line + way) d
+in-line line xs way d h = getD-take 4 (drop (4 * line) xs) way d h ∙ getD-drop (4 * line) xs way d
+
 module _ (points : ℕ) where
-  same-empty : (z : ℤ) → isEmpty (decayedBy points z) ≡ isEmpty z
+  pub same-empty : (z : ℤ) → isEmpty (decayedBy points z) ≡ isEmpty z
   same-empty z = by-dn (decayedBy points z) ∙ ap (λ (n : ℕ). eqb n 32768) (fell points z .dn-same) ∙ sym (by-dn z)
 
   zero-stays : decayedBy points (pos 0) ≡ pos 0
   zero-stays = omega (signed, fell points (pos 0))
 
   -- a count of a line
-  at : (counts : List ℤ) (line way : ℕ) → way < 4
+  pub at : (counts : List ℤ) (line way : ℕ) → way < 4
       → getD (lineOf line (map (decayedBy points) counts)) way (pos 0) ≡ decayedBy points (getD (lineOf line counts) way (pos 0))
   at counts line way h =
-      there (map (decayedBy points) counts)
+      in-line line (map (decayedBy points) counts) way (pos 0) h
       ∙ ap (λ (z : ℤ). getD (map (decayedBy points) counts) (4 * line + way) z) (sym zero-stays)
       ∙ List·getD-map (decayedBy points) counts (4 * line + way) (pos 0)
-      ∙ sym (ap (decayedBy points) (there counts))
-    where
-      there : (zs : List ℤ) → getD (lineOf line zs) way (pos 0) ≡ getD zs (4 * line + way) (pos 0)
-      there zs = getD-take 4 (drop (4 * line) zs) way (pos 0) h ∙ getD-drop (4 * line) zs way (pos 0)
+      ∙ sym (ap (decayedBy points) (in-line line counts way (pos 0) h))
 
   module _ (line tag : ℕ) (tags : List ℕ) (counts : List ℤ) where
     -- the tag's entry is where it was
-    same-own : ownWay tag (lineOf line tags) (lineOf line (map (decayedBy points) counts)) ≡ ownWay tag (lineOf line tags) (lineOf line counts)
+    pub same-own : ownWay tag (lineOf line tags) (lineOf line (map (decayedBy points) counts)) ≡ ownWay tag (lineOf line tags) (lineOf line counts)
     unfolding ownWay
     same-own =
         first-same 4 _ _

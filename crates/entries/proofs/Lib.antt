@@ -2,3 +2,4 @@
 pub mod Lines
 pub mod Readback
 pub mod Decay
+pub mod Once

@@ -33,17 +33,17 @@ abbrev is-told : Replaced → Bool
 is-told Nothing = false
 is-told (Tag t) = true
 
-nothing-is-no-tag : {t : ℕ} → Nothing ≡ Tag t → ⊥
+pub nothing-is-no-tag : {t : ℕ} → Nothing ≡ Tag t → ⊥
 nothing-is-no-tag e = true-is-not-false refl (ap is-told (sym e))
 
 -- ---- in a line
 module _ (tag : ℕ) (tags : List ℕ) (counts : List ℤ) where
   -- no way before the first is the tag's
-  before-own : (j : ℕ) → j < ownWay tag tags counts → isOwn tag tags counts j ≡ false
+  pub before-own : (j : ℕ) → j < ownWay tag tags counts → isOwn tag tags counts j ≡ false
   unfolding ownWay
   before-own j l = first-is 4 (isOwn tag tags counts) .before j l
 
-  at-own : ownWay tag tags counts < 4 → isOwn tag tags counts (ownWay tag tags counts) ≡ true
+  pub at-own : ownWay tag tags counts < 4 → isOwn tag tags counts (ownWay tag tags counts) ≡ true
   unfolding ownWay
   at-own h = first-is 4 (isOwn tag tags counts) .holds h
 
@@ -52,7 +52,7 @@ module _ (tag : ℕ) (tags : List ℕ) (counts : List ℤ) where
   at-empty h = first-is 4 (λ way. isEmpty (getD counts way (pos 0))) .holds h
 
   -- so none before the room is either
-  before-room : (j : ℕ) → j < roomFor tag tags counts .way → isOwn tag tags counts j ≡ false
+  pub before-room : (j : ℕ) → j < roomFor tag tags counts .way → isOwn tag tags counts j ≡ false
   before-room j =
       room-cases tag tags counts (λ r. j < r .way → isOwn tag tags counts j ≡ false)
       (λ h l. before-own j l)
@@ -69,12 +69,12 @@ module _ (tag : ℕ) (tags : List ℕ) (counts : List ℤ) where
   no-entry t way e = ap (λ (b : Bool). not b && eqb (getD tags way 0) t) e
 
   -- the tag's own entry has its tag, and no way before the first empty one is empty
-  own-tag : ownWay tag tags counts < 4 → getD tags (ownWay tag tags counts) 0 ≡ tag
+  pub own-tag : ownWay tag tags counts < 4 → getD tags (ownWay tag tags counts) 0 ≡ tag
   own-tag h =
       let way = ownWay tag tags counts in
       eqb-true _ _ (and-right (not (isEmpty (getD counts way (pos 0)))) (eqb (getD tags way 0) tag) (at-own h))
 
-  before-empty : (j : ℕ) → j < emptyWay counts → isEmpty (getD counts j (pos 0)) ≡ false
+  pub before-empty : (j : ℕ) → j < emptyWay counts → isEmpty (getD counts j (pos 0)) ≡ false
   unfolding emptyWay
   before-empty j l = first-is 4 (λ way. isEmpty (getD counts way (pos 0))) .before j l
 
@@ -93,7 +93,7 @@ module _ (tag : ℕ) (tags : List ℕ) (counts : List ℤ) where
       true-is-not-false (λ i. not (full i) && eq-eqb (getD tags way 0) tag e i) (before-own way (omega arith))
 
   -- so the tag that is replaced is another
-  replaced-in : (t : ℕ) → roomFor tag tags counts .replaced ≡ Tag t → t ≢ tag
+  pub replaced-in : (t : ℕ) → roomFor tag tags counts .replaced ≡ Tag t → t ≢ tag
   replaced-in t =
       room-cases tag tags counts (λ r. r .replaced ≡ Tag t → t ≢ tag)
       (λ h told. absurd (nothing-is-no-tag told))
@@ -103,11 +103,11 @@ module _ (tag : ℕ) (tags : List ℕ) (counts : List ℤ) where
 -- a line with one entry set
 module _ (tags : List ℕ) (counts : List ℤ) (way tag : ℕ) (count : ℤ) (in-tags : way < length tags) (in-counts : way < length counts) where
   -- the entry is what was set
-  set-here : (t : ℕ) → isOwn t (set tags way tag) (set counts way count) way ≡ (not (isEmpty count) && eqb tag t)
+  pub set-here : (t : ℕ) → isOwn t (set tags way tag) (set counts way count) way ≡ (not (isEmpty count) && eqb tag t)
   set-here t = λ i. not (isEmpty (getD-set-same counts way count (pos 0) in-counts i)) && eqb (getD-set-same tags way tag 0 in-tags i) t
 
   -- the others are what they were
-  set-there : (t j : ℕ) → j ≢ way → isOwn t (set tags way tag) (set counts way count) j ≡ isOwn t tags counts j
+  pub set-there : (t j : ℕ) → j ≢ way → isOwn t (set tags way tag) (set counts way count) j ≡ isOwn t tags counts j
   set-there t j ne = λ i. not (isEmpty (getD-set-other counts way j count (pos 0) ne i)) && eqb (getD-set-other tags way j tag 0 ne i) t
 
   -- the tag's count is then the one that was set
@@ -148,12 +148,12 @@ module _ (tags : List ℕ) (counts : List ℤ) (way tag : ℕ) (count : ℤ) (in
 
 -- ---- in the table
 -- the line that was written, with its entry set
-own-line : {A : Type 0} (line way : ℕ) (xs : List A) (v : A) → way < 4 → lineOf line (set xs (4 * line + way) v) ≡ set (lineOf line xs) way v
+pub own-line : {A : Type 0} (line way : ℕ) (xs : List A) (v : A) → way < 4 → lineOf line (set xs (4 * line + way) v) ≡ set (lineOf line xs) way v
 own-line {A} line way xs v h =
     ap (λ (l : List A). take 4 l) (drop-set-add (4 * line) xs way v) ∙ take-set-lt 4 (drop (4 * line) xs) way v h
 
 -- any other line, as it was
-other-line : {A : Type 0} (m line way : ℕ) (xs : List A) (v : A) → m ≢ line → way < 4 → lineOf m (set xs (4 * line + way) v) ≡ lineOf m xs
+pub other-line : {A : Type 0} (m line way : ℕ) (xs : List A) (v : A) → m ≢ line → way < 4 → lineOf m (set xs (4 * line + way) v) ≡ lineOf m xs
 other-line {A} m line way xs v ne h = go (which m line)
   where
     go : Which m line → lineOf m (set xs (4 * line + way) v) ≡ lineOf m xs
@@ -165,7 +165,7 @@ other-line {A} m line way xs v ne h = go (which m line)
     go (above l) = ap (λ (l : List A). take 4 l) (drop-set-lt (4 * m) xs (4 * line + way) v (omega arith))
 
 -- setting an entry keeps the lists' lengths, so that they lack the same lines as before
-same-lines : (m i j v : ℕ) (z : ℤ) (tags : List ℕ) (counts : List ℤ)
+pub same-lines : (m i j v : ℕ) (z : ℤ) (tags : List ℕ) (counts : List ℤ)
     → lacksLine m (length (set tags i v)) (length (set counts j z)) ≡ lacksLine m (length tags) (length counts)
 same-lines m i j v z tags counts = λ k. lacksLine m (length-set tags i v k) (length-set counts j z k)
 
@@ -177,7 +177,7 @@ module _ (line tag : ℕ) (count : ℤ) (tags : List ℕ) (counts : List ℤ) wh
   abbrev pub room : Room
   room = roomFor tag (lineOf line tags) (lineOf line counts)
 
-  low : room .way < 4
+  pub low : room .way < 4
   low = room-lt tag (lineOf line tags) (lineOf line counts)
 
   -- a line that is not there: nothing is written
@@ -186,13 +186,13 @@ module _ (line tag : ℕ) (count : ℤ) (tags : List ℕ) (counts : List ℤ) wh
   nothing e = cond-at _ _ e
 
   -- one that is: its entry is
-  something : lacksLine line (length tags) (length counts) ≡ false
+  pub something : lacksLine line (length tags) (length counts) ≡ false
       → after ≡ writtenOf (room .replaced) (set tags (4 * line + room .way) tag) (set counts (4 * line + room .way) count)
   unfolding written
   something e = cond-at _ _ e
 
   -- so what holds of both holds of what a write leaves
-  cases : (P : Written → Type 0) → P (writtenOf Nothing tags counts)
+  pub cases : (P : Written → Type 0) → P (writtenOf Nothing tags counts)
       → (lacksLine line (length tags) (length counts) ≡ false → P (writtenOf (room .replaced) (set tags (4 * line + room .way) tag) (set counts (4 * line + room .way) count)))
       → P after
   cases P none some = go (lacksLine line (length tags) (length counts)) refl
@@ -202,7 +202,7 @@ module _ (line tag : ℕ) (count : ℤ) (tags : List ℕ) (counts : List ℤ) wh
       go false e = subst P (sym (something e)) (some e)
 
   -- then the room is within the line's part of each list
-  within : lacksLine line (length tags) (length counts) ≡ false → (room .way < length (lineOf line tags)) × (room .way < length (lineOf line counts))
+  pub within : lacksLine line (length tags) (length counts) ≡ false → (room .way < length (lineOf line tags)) × (room .way < length (lineOf line counts))
   within e =
       let h = has-line line (length tags) (length counts) e in
       (omega (arith, low, line-length line tags (h .0)), omega (arith, low, line-length line counts (h .1)))

@@ -1,2 +1,3 @@
--- The theorems.
+-- What is proved of the whole.
 pub mod Bench
+pub mod Demand3

@@ -1,2 +1,3 @@
--- What the promises are stated with.
+-- What is promised: the numbered bench examples, and demand 3.
 pub mod Bench
+pub mod Demand3

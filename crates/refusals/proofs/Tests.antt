@@ -1,17 +1,18 @@
 -- The first test that holds gives the number, and 0 says that none does.
 -- Assumes nothing.
-use mathlib.Core.Bool.{Bool, true, false, _||_}
+use mathlib.Core.Bool.{Bool, true, false, _||_, cond}
 use mathlib.Core.List.{List, [], _∷_, _++_}
 use mathlib.Core.Path.{_≡_, refl, sym, ap, _∙_}
-use Prim.Native.Nat.{ℕ}
+use Prim.Native.Nat.{ℕ, _≤_, _<_}
 use native.Mathlib.Omega.{arith}
 use lib.Dec.{ltb}
+use borrow.Author.Tests.{ltb-false}
 use Rattle.laws.proofs.Tests.{cond-at}
 use Rattle.settings.specs.declared.Settings.{Settings}
 use Rattle.settings.specs.Settings.{badSettings}
 use Rattle.sides.specs.Lists.{badList}
 use Rattle.tables.specs.Sizes.{badSizes}
-use Rattle.refusals.specs.Refusals.{firstRefusal, earlyRefusal}
+use Rattle.refusals.specs.Refusals.{firstRefusal, startRefusal, timeRefusal, earlyRefusal}
 
 -- ---- the first test that holds
 -- none of these conditions holds
@@ -51,14 +52,40 @@ first-is (test ∷ before) after number none = cond-at _ _ (none .0) ∙ first-i
 abbrev pub four : Bool → Bool → Bool → Bool → ℕ
 four a b c d = firstRefusal ((1, a) ∷ (2, b) ∷ (3, c) ∷ (4, d) ∷ [])
 
--- where there is none, no condition holds; the sizes' is the one that a caller goes on with
-second-passed : (a b c d : Bool) → four a b c d ≡ 0 → b ≡ false
-second-passed true b c d e = absurd (omega arith)
-second-passed false true c d e = absurd (omega arith)
-second-passed false false c d e = refl
+-- ---- where there is no refusal, no condition holds
+passed-by : (number : ℕ) (t : Bool) (rest : ℕ) → 0 < number → cond t number rest ≡ 0 → (t ≡ false) × (rest ≡ 0)
+passed-by number true rest h e = absurd (omega arith)
+passed-by number false rest h e = (refl, e)
 
-pub good-sizes : (settings : Settings) (records tags counts : ℕ) (cell plant : List ℕ) (clock time : ℕ)
-    → earlyRefusal settings records tags counts cell plant clock time ≡ 0 → badSizes records tags counts ≡ false
-unfolding earlyRefusal
-good-sizes settings records tags counts cell plant clock time =
-    second-passed (badSettings settings) (badSizes records tags counts) (badList cell || badList plant) (ltb time clock)
+module _ (settings : Settings) (records tags counts : ℕ) where
+  -- settings and sizes, of a start
+  pub good-start : startRefusal settings records tags counts ≡ 0 → (badSettings settings ≡ false) × (badSizes records tags counts ≡ false)
+  unfolding startRefusal
+  good-start e =
+      let one = passed-by 1 (badSettings settings) _ (omega arith) e in
+      (one .0, passed-by 2 (badSizes records tags counts) _ (omega arith) (one .1) .0)
+
+  -- the time, of a call with a time alone
+  pub time-in-order : (clock time : ℕ) → timeRefusal settings records tags counts clock time ≡ 0 → clock ≤ time
+  unfolding timeRefusal
+  time-in-order clock time e =
+      let one = passed-by 1 (badSettings settings) _ (omega arith) e in
+      let two = passed-by 2 (badSizes records tags counts) _ (omega arith) (one .1) in
+      ltb-false time clock (passed-by 4 (ltb time clock) _ (omega arith) (two .1) .0)
+
+  module _ (cell plant : List ℕ) (clock time : ℕ) (e : earlyRefusal settings records tags counts cell plant clock time ≡ 0) where
+    -- the sizes, of a packet, are what its judge goes on with
+    pub good-sizes : badSizes records tags counts ≡ false
+    unfolding earlyRefusal
+    good-sizes =
+        let one = passed-by 1 (badSettings settings) _ (omega arith) e in
+        passed-by 2 (badSizes records tags counts) _ (omega arith) (one .1) .0
+
+    -- and the time
+    pub packet-in-order : clock ≤ time
+    unfolding earlyRefusal
+    packet-in-order =
+        let one = passed-by 1 (badSettings settings) _ (omega arith) e in
+        let two = passed-by 2 (badSizes records tags counts) _ (omega arith) (one .1) in
+        let three = passed-by 3 (badList cell || badList plant) _ (omega arith) (two .1) in
+        ltb-false time clock (passed-by 4 (ltb time clock) _ (omega arith) (three .1) .0)

@@ -1,0 +1,7 @@
+-- What every call keeps true of slots and counts.
+pub mod Account
+pub mod Slots
+pub mod Lawful
+pub mod Writes
+pub mod Own
+pub mod Runs

@@ -1,0 +1,63 @@
+-- The test of being live is document 01's own wording: after a cold start it passes exactly if some earlier packet forwarded on the
+-- slot, other than a closing one from the plant, has no gap of over Dconn boundaries from it to now.
+-- Assumes nothing.
+use mathlib.Core.Bool.{Bool, true, false, not, _||_}
+use mathlib.Core.List.{List, [], _∷_, _++_}
+use mathlib.Core.Logic.{_↔_}
+use mathlib.Core.Path.{_≡_, refl, sym, ap, subst, _∙_}
+use Prim.Native.Nat.{ℕ, _≤_}
+use lib.Dec.{leb}
+use borrow.Author.Tests.{leb-true, le-leb}
+use Rattle.laws.proofs.Tests.{true-is-not-false, and-left, and-right, and-yes}
+use Rattle.tables.specs.Clock.{multiplesPassed}
+use Rattle.history.specs.Fresh.{Forwarded, closesFromPlant, NoLongGap, Live, isLive}
+
+module _ (dconn : ℕ) where
+  abbrev test : ℕ → List Forwarded → Bool
+  test now forwarded = isLive (λ moment. false) dconn now forwarded
+
+  -- the newest of them is near enough, and opens the slot or came when it was live
+  abbrev near : ℕ → Forwarded → Bool
+  near now last = leb (multiplesPassed 60 (last .time) now) dconn
+
+  abbrev opens : Forwarded → List Forwarded → Bool
+  opens last earlier = not (closesFromPlant (last .packet)) || test (last .time) earlier
+
+  in-words : (now : ℕ) (forwarded : List Forwarded) → test now forwarded ≡ true → Live dconn now forwarded
+  in-words now [] e = true-is-not-false e refl
+  in-words now (last ∷ earlier) e = go (closesFromPlant (last .packet)) refl (in-words (last .time) earlier)
+    where
+      gap : multiplesPassed 60 (last .time) now ≤ dconn
+      gap = leb-true _ _ (and-left (near now last) (opens last earlier) e)
+
+      opened : opens last earlier ≡ true
+      opened = and-right (near now last) (opens last earlier) e
+
+      go : (closes : Bool) → closesFromPlant (last .packet) ≡ closes → (test (last .time) earlier ≡ true → Live dconn (last .time) earlier)
+          → Live dconn now (last ∷ earlier)
+      go false c more = record { newer = []; it = last; older = earlier; some-earlier = refl; other-than = c; from-it-to-now = (gap, tt) }
+      go true c more =
+          let l = more (ap (λ (b : Bool). not b || test (last .time) earlier) (sym c) ∙ opened) in
+          record {
+            newer = last ∷ l .newer;
+            it = l .it;
+            older = l .older;
+            some-earlier = ap (λ (xs : List Forwarded). last ∷ xs) (l .some-earlier);
+            other-than = l .other-than;
+            from-it-to-now = (gap, l .from-it-to-now);
+          }
+
+  or-later : (s : Bool) {t : Bool} → t ≡ true → (s || t) ≡ true
+  or-later true e = refl
+  or-later false e = e
+
+  reached : (now : ℕ) (newer : List Forwarded) (it : Forwarded) (older : List Forwarded) → closesFromPlant (it .packet) ≡ false
+      → NoLongGap dconn now (newer ++ (it ∷ [])) → test now (newer ++ (it ∷ older)) ≡ true
+  reached now [] it older c n =
+      and-yes (le-leb _ _ (n .0)) (ap (λ (b : Bool). not b || test (it .time) older) c)
+  reached now (last ∷ newer) it older c n =
+      and-yes (le-leb _ _ (n .0)) (or-later (not (closesFromPlant (last .packet))) (reached (last .time) newer it older c (n .1)))
+
+  pub live-is : (now : ℕ) (forwarded : List Forwarded) → (test now forwarded ≡ true) ↔ Live dconn now forwarded
+  live-is now forwarded =
+      (in-words now forwarded, λ l. subst (λ (xs : List Forwarded). test now xs ≡ true) (sym (l .some-earlier)) (reached now (l .newer) (l .it) (l .older) (l .other-than) (l .from-it-to-now)))

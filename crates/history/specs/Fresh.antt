@@ -1,0 +1,156 @@
+-- Document 01, "Fresh, from history": which slots are live, which contacts are fresh, and D, H and R; from a history of calls and
+-- answers, and from nothing that is stored.
+-- Assumes nothing.
+use mathlib.Core.Bool.{Bool, true, false, not, _&&_, _||_, cond}
+use mathlib.Core.List.{List, [], _∷_, _++_}
+use mathlib.Core.Option.{Option, none, some}
+use mathlib.Core.Path.{_≡_}
+use Prim.Native.Nat.{ℕ, zero, suc, _+_, _≤_}
+use lib.Dec.{leb, eqb}
+use Rattle.packet.specs.declared.Header.{Header}
+use Rattle.packet.specs.Header.{headerOf}
+use Rattle.sides.specs.declared.Direction.{Direction}
+use Rattle.sides.specs.declared.Direction.the-variants.{FromCell, FromPlant, NotOurs}
+use Rattle.tables.specs.Clock.{multiplesPassed}
+use Rattle.settings.specs.declared.Settings.{Settings}
+use Rattle.verdicts.specs.declared.Verdict.{Verdict}
+use Rattle.verdicts.specs.declared.Verdict.the-variants.{Uncounted, CreditOfOne, CreditOfTwo, FreshContact, Hygiene, Blocked}
+use Rattle.verdicts.specs.Verdicts.{isForwarded, isClosing}
+use Rattle.rulings.specs.declared.answers.Answer.the-variants as answer
+use Rattle.rulings.specs.Answers.{refusalTold, replacedTold}
+use Rattle.rulings.specs.Rules.{Rules, cellOf}
+use Rattle.gateway.specs.Packets.{directionIn}
+use Rattle.gateway.specs.Calls.{refusalIn}
+use Rattle.history.specs.Runs.{Site, Event, judgedAt, passedAt}
+
+-- ---- packets of ours, read from their bytes
+pub record Ours : Type 0 where
+  pub header : Header
+  pub fromPlant : Bool
+
+abbrev pub comesFromPlant : Direction → Bool
+comesFromPlant FromCell = false
+comesFromPlant FromPlant = true
+comesFromPlant NotOurs = false
+
+abbrev pub oursOf : Site → List ℕ → Ours
+oursOf site bytes =
+    record { header = headerOf bytes; fromPlant = comesFromPlant (directionIn (site .cell) (site .plant) (headerOf bytes)) }
+
+abbrev pub cellAddress : Ours → ℕ
+cellAddress packet = cellOf (packet .header) (packet .fromPlant)
+
+-- "a closing one from the plant"
+abbrev pub closesFromPlant : Ours → Bool
+closesFromPlant packet = packet .fromPlant && isClosing (packet .header .transport .kind)
+
+-- ---- live
+-- a packet that was forwarded, and when
+pub record Forwarded : Type 0 where
+  pub time : ℕ
+  pub packet : Ours
+
+-- "no gap between successive forwarded packets on that slot, nor from the last to now, passes more than Dconn minute boundaries"
+abbrev pub NoLongGap : ℕ → ℕ → List Forwarded → Type 0
+NoLongGap dconn now [] = Unit {0}
+NoLongGap dconn now (last ∷ earlier) = (multiplesPassed 60 (last .time) now ≤ dconn) × NoLongGap dconn (last .time) earlier
+
+-- "A slot is live at a moment when some earlier packet forwarded on it, other than a closing one from the plant, is such that from it to
+-- now" there is no such gap: in these words, of the packets forwarded on it
+pub record Live (dconn now : ℕ) (forwarded : List Forwarded) : Type 0 where
+  pub newer : List Forwarded
+  pub it : Forwarded
+  pub older : List Forwarded
+  pub some-earlier : forwarded ≡ newer ++ (it ∷ older)
+  pub other-than : closesFromPlant (it .packet) ≡ false
+  pub from-it-to-now : NoLongGap dconn now (newer ++ (it ∷ []))
+
+-- The same as a test that computes (`live-is`, history/proofs/Live, says that it is these words). What was live when the history began
+-- is given as the slot's own test of a moment: after a cold start nothing was.
+abbrev pub isLive : (ℕ → Bool) → ℕ → ℕ → List Forwarded → Bool
+isLive held dconn now [] = held now
+isLive held dconn now (last ∷ earlier) =
+    leb (multiplesPassed 60 (last .time) now) dconn && (not (closesFromPlant (last .packet)) || isLive held dconn (last .time) earlier)
+
+abbrev pub nothingHeld : ℕ → ℕ → Bool
+nothingHeld slot now = false
+
+-- ---- H: "1 per verdict 2 and 2 per verdict 3"
+abbrev pub creditOf : Verdict → ℕ
+creditOf Uncounted = 0
+creditOf CreditOfOne = 1
+creditOf CreditOfTwo = 2
+creditOf FreshContact = 0
+creditOf Hygiene = 0
+creditOf Blocked = 0
+
+-- ---- R: "the answers that name it as replaced"
+abbrev pub names : ℕ → Option ℕ → Bool
+names address none = false
+names address (some replaced) = eqb replaced address
+
+abbrev pub replacements : ℕ → List Event → ℕ
+replacements address [] = 0
+replacements address (judgedAt time bytes answered ∷ before) =
+    replacements address before + cond (names address (replacedTold answered)) 1 0
+replacements address (passedAt time reply ∷ before) = replacements address before
+
+-- ---- the clock: the time of the last call that was not refused, and before any call the start's
+abbrev pub unlessRefusedBy : ℕ → ℕ → ℕ → ℕ
+unlessRefusedBy zero time clock = time
+unlessRefusedBy (suc number) time clock = clock
+
+abbrev pub clockAfter : ℕ → List Event → ℕ
+clockAfter start [] = start
+clockAfter start (judgedAt time bytes answered ∷ before) = unlessRefusedBy (refusalTold answered) time (clockAfter start before)
+clockAfter start (passedAt time reply ∷ before) = unlessRefusedBy (refusalIn reply) time (clockAfter start before)
+
+module _ (rules : Settings → Rules) (site : Site) where
+  abbrev pub slotFor : Ours → ℕ
+  slotFor packet = rules (site .settings) .slot (site .settings .keys) (packet .header) (packet .fromPlant) (site .records)
+
+  -- the packets forwarded on a slot
+  abbrev pub forwardedOn : ℕ → List Event → List Forwarded
+  forwardedOn slot [] = []
+  forwardedOn slot (judgedAt time bytes (answer.Refused number) ∷ before) = forwardedOn slot before
+  forwardedOn slot (judgedAt time bytes answer.NotOurs ∷ before) = forwardedOn slot before
+  forwardedOn slot (judgedAt time bytes (answer.Judged verdict count replaced) ∷ before) =
+      cond (isForwarded verdict && eqb (slotFor (oursOf site bytes)) slot)
+      (record { time = time; packet = oursOf site bytes } ∷ forwardedOn slot before)
+      (forwardedOn slot before)
+  forwardedOn slot (passedAt time reply ∷ before) = forwardedOn slot before
+
+  -- D: "the multiples of Dmiss passed since the cold start"
+  abbrev pub decays : ℕ → List Event → ℕ
+  decays start history = multiplesPassed (site .settings .dmiss) start (clockAfter start history)
+
+  -- H, for an address
+  abbrev pub credits : ℕ → List Event → ℕ
+  credits address [] = 0
+  credits address (judgedAt time bytes (answer.Refused number) ∷ before) = credits address before
+  credits address (judgedAt time bytes answer.NotOurs ∷ before) = credits address before
+  credits address (judgedAt time bytes (answer.Judged verdict count replaced) ∷ before) =
+      credits address before + cond (eqb (cellAddress (oursOf site bytes)) address) (creditOf verdict) 0
+  credits address (passedAt time reply ∷ before) = credits address before
+
+  module _ (held : ℕ → ℕ → Bool) where
+    -- whether the packet's slot is live at a moment, by what came before
+    abbrev pub liveFor : Ours → ℕ → List Event → Bool
+    liveFor packet now before =
+        isLive (held (slotFor packet)) (site .settings .dconn) now (forwardedOn (slotFor packet) before)
+
+    -- "A fresh contact is a forwarded cell packet whose slot was not live."
+    abbrev pub isFresh : ℕ → Ours → Verdict → List Event → Bool
+    isFresh time packet verdict before = isForwarded verdict && (not (packet .fromPlant) && not (liveFor packet time before))
+
+    -- F: the fresh contacts of an address that were forwarded, each by its weight, which by document 01's rules is 1
+    abbrev pub freshContacts : ℕ → List Event → ℕ
+    freshContacts address [] = 0
+    freshContacts address (judgedAt time bytes (answer.Refused number) ∷ before) = freshContacts address before
+    freshContacts address (judgedAt time bytes answer.NotOurs ∷ before) = freshContacts address before
+    freshContacts address (judgedAt time bytes (answer.Judged verdict count replaced) ∷ before) =
+        freshContacts address before
+        + cond (eqb (cellAddress (oursOf site bytes)) address && isFresh time (oursOf site bytes) verdict before)
+        (rules (site .settings) .weight (headerOf bytes))
+        0
+    freshContacts address (passedAt time reply ∷ before) = freshContacts address before

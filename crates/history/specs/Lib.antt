@@ -1,0 +1,3 @@
+-- What a run is, and what its history says.
+pub mod Runs
+pub mod Fresh

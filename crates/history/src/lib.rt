@@ -1,0 +1,1 @@
+// No code: what a run's history is, and what is fresh by it.

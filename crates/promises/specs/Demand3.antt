@@ -1,0 +1,60 @@
+-- The customer's demand 3: "From its one cold start, with settings, side lists and sizes unchanged and tables written by its calls alone,
+-- after calls of every other sort: for each cell address the fresh contacts forwarded are never more than T + D + H + T × R, and no packet
+-- of its is dropped as blocked until at least T of its fresh contacts were forwarded. Fresh is judged from the packet history by document
+-- 01, not from stored marks."
+-- Assumes nothing.
+use mathlib.Core.List.{List, [], _∷_, _++_}
+use mathlib.Core.Path.{_≡_}
+use Prim.Native.Nat.{ℕ, _+_, _*_, _^_, _≤_, _<_}
+use lib.IntN.{ℤ}
+use lib.ListN.{length}
+use Rattle.settings.specs.declared.Settings.{Settings}
+use Rattle.verdicts.specs.declared.Verdict.the-variants.{Blocked}
+use Rattle.rulings.specs.declared.answers.Replacement.{Replacement}
+use Rattle.rulings.specs.declared.answers.Answer.the-variants.{Judged}
+use Rattle.rulings.specs.Rules.{document01}
+use Rattle.gateway.specs.Calls.{State, started}
+use Rattle.history.specs.Runs.{Site, Call, packetAt, timeAlone, Event, judgedAt, history}
+use Rattle.history.specs.Fresh.{oursOf, cellAddress, nothingHeld, freshContacts, decays, credits, replacements}
+
+-- What the types of the code's arguments say already: keys are 32-bit words, and a packet is made of bytes.
+abbrev pub EachBelow : ℕ → List ℕ → Type 0
+EachBelow limit [] = Unit {0}
+EachBelow limit (x ∷ xs) = (x < limit) × EachBelow limit xs
+
+abbrev pub OfBytes : List Call → Type 0
+OfBytes [] = Unit {0}
+OfBytes (packetAt time bytes ∷ calls) = EachBelow 256 bytes × OfBytes calls
+OfBytes (timeAlone time ∷ calls) = OfBytes calls
+
+-- a gateway's settings and side lists, the tables and clock that it is lent, and the time at which it starts cold
+module _ (settings : Settings) (cell plant : List ℕ) (lent : State) (start : ℕ) where
+  abbrev pub site : Site
+  site = record { settings = settings; cell = cell; plant = plant; records = length (lent .tables .records) }
+
+  -- what happened, call by call, from the cold start on
+  abbrev pub happened : List Call → List Event
+  happened calls = history document01 site (started settings start lent .state) calls
+
+  -- of a history: the fresh contacts of an address that were forwarded, D, and the address's H and R
+  abbrev pub F : ℕ → List Event → ℕ
+  F address h = freshContacts document01 site nothingHeld address h
+
+  abbrev pub D : List Event → ℕ
+  D h = decays document01 site start h
+
+  abbrev pub H : ℕ → List Event → ℕ
+  H address h = credits document01 site address h
+
+  abbrev pub R : ℕ → List Event → ℕ
+  R address h = replacements address h
+
+  pub record Demand3 (calls : List Call) : Type 0 where
+    -- "the fresh contacts forwarded are never more than T + D + H + T × R"
+    pub bounded : (address : ℕ) → address < 2 ^ 32
+        → F address (happened calls)
+        ≤ settings .threshold + D (happened calls) + H address (happened calls) + settings .threshold * R address (happened calls)
+    -- "no packet of its is dropped as blocked until at least T of its fresh contacts were forwarded": whatever was answered 6, before it
+    pub not-before : (after before : List Event) (time : ℕ) (bytes : List ℕ) (count : ℤ) (replaced : Replacement)
+        → happened calls ≡ after ++ (judgedAt time bytes (Judged Blocked count replaced) ∷ before)
+        → settings .threshold ≤ F (cellAddress (oursOf site bytes)) before
