@@ -11,9 +11,10 @@ use Rattle.laws.proofs.Signed.{up, dn}
 use Rattle.verdicts.specs.declared.Verdict.{Verdict}
 use Rattle.verdicts.specs.declared.Verdict.the-variants.{Uncounted, CreditOfOne, CreditOfTwo, FreshContact, Hygiene, Blocked}
 use Rattle.rulings.specs.Rulings.{countWritten, countedBy}
+use Rattle.history.specs.Answered.{isFour}
 use Rattle.history.specs.Fresh.{creditOf}
 use Rattle.books.proofs.Account.{Holds, recast, raised, lowered, on-fresh, on-credit, on-attempt}
-use Rattle.books.proofs.Slots.{isFour, isSix}
+use Rattle.books.proofs.Slots.{isSix}
 
 -- an attempt writes no lower count
 abbrev pub NoLower : ℤ → Option ℤ → Type 0

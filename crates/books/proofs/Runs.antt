@@ -50,9 +50,10 @@ use Rattle.gateway.specs.declared.Reply.{Reply}
 use Rattle.gateway.specs.declared.Reply.the-variants.{Refused, Done}
 use Rattle.gateway.specs.Calls.{State, After, orElse, unlessRefused, timeRefusalAt, onward, passed, packetRefusal, accepted, judged}
 use Rattle.history.specs.Runs.{Site, Call, packetAt, timeAlone, Event, judgedAt, passedAt, stateAfter, eventOf, left, history}
+use Rattle.history.specs.Answered.{isFour, fours}
 use Rattle.history.specs.Fresh.{Ours, comesFromPlant, oursOf, cellAddress, creditOf, names, replacements, unlessRefusedBy, clockAfter, slotFor, forwardedOn, decays, credits, isFresh, freshContacts}
 use Rattle.books.proofs.Account.{Holds, at-start, recast, on-named, on-replaced, on-decay, holds-bound, holds-blocked}
-use Rattle.books.proofs.Slots.{isFour, isSix, Ruled, ruled, forwarded-record, dropped-record, heldBy, Kept, kept-start, kept-onward, kept-forwarded}
+use Rattle.books.proofs.Slots.{isSix, Ruled, ruled, forwarded-record, dropped-record, heldBy, Kept, kept-start, kept-onward, kept-forwarded}
 use Rattle.books.proofs.Lawful.{Lawful}
 use Rattle.books.proofs.Writes.{placed, countAt, own-count, isNamed, other-count}
 use Rattle.books.proofs.Own.{NoLower, own-account}
@@ -97,8 +98,33 @@ zero-ages : (d m : ℕ) → agedBy d m 0 ≡ 0
 zero-ages d zero = aged-none d 0
 zero-ages d (suc m) = aged-cold d (suc m) 0 (low-is-cold 0 (omega arith)) (omega arith)
 
-module _ (rules : Settings → Rules) (site : Site) (W U : ℕ) (ok : Lawful (rules (site .settings)) W U) (k : Keys (site .settings .keys))
-    (a : ℕ) (few : a ≤ 32) (narrow : site .settings .dconn ≤ 62) (some-records : 0 < site .records) (start : State) where
+-- what stays in a run: its rules, settings, side lists and sizes, with what is asked of them. W is the heaviest contact and U the highest
+-- count that a forwarded contact makes; there are 2 ^ a lines.
+pub record Setup : Type 0 where
+  pub rules : Settings → Rules
+  pub site : Site
+  pub W : ℕ
+  pub U : ℕ
+  pub ok : Lawful (rules (site .settings)) W U
+  pub k : Keys (site .settings .keys)
+  pub a : ℕ
+  pub few : a ≤ 32
+  pub narrow : site .settings .dconn ≤ 62
+  pub some-records : 0 < site .records
+
+module _ (x : Setup) (start : State) where
+  abbrev rules : Settings → Rules
+  rules = x .rules
+
+  abbrev site : Site
+  site = x .site
+
+  abbrev U : ℕ
+  U = x .U
+
+  abbrev a : ℕ
+  a = x .a
+
   abbrev r : Rules
   r = rules (site .settings)
 
@@ -114,7 +140,7 @@ module _ (rules : Settings → Rules) (site : Site) (W U : ℕ) (ok : Lawful (ru
 
   -- an address's count in a state
   abbrev pub countIn : State → ℕ → ℤ
-  countIn s address = countAt k a few (s .tables .tags) (s .tables .counts) address
+  countIn s address = countAt (x .k) a (x .few) (s .tables .tags) (s .tables .counts) address
 
   -- how the tables lie
   pub record Sound (s : State) : Type 0 where
@@ -182,9 +208,9 @@ module _ (rules : Settings → Rules) (site : Site) (W U : ℕ) (ok : Lawful (ru
           slots = λ slot q. subst
               (λ (b : ℕ). Kept dconn (start .clock) (getD (start .tables .records) slot 0) b time (forwardedOn rules site slot h))
               (sym (aged-at slot))
-              (kept-onward dconn (start .clock) (getD (start .tables .records) slot 0) narrow (i .slots slot q) time l);
+              (kept-onward dconn (start .clock) (getD (start .tables .records) slot 0) (x .narrow) (i .slots slot q) time l);
           books = λ address q. recast (on-decay (i .books address q) (multiples * r .point))
-              (count-decays (multiples * r .point) (placed k a few address .line) (placed k a few address .tag) (s .tables .tags) (s .tables .counts))
+              (count-decays (multiples * r .point) (placed (x .k) a (x .few) address .line) (placed (x .k) a (x .few) address .tag) (s .tables .tags) (s .tables .counts))
               refl more refl refl;
         })
       where
@@ -228,7 +254,7 @@ module _ (rules : Settings → Rules) (site : Site) (W U : ℕ) (ok : Lawful (ru
     abbrev wrote : Option ℤ → Written
     wrote n =
         cond (countedBy count n .writes)
-        (written (placed k a few cell .line) (placed k a few cell .tag) (countedBy count n .count) (s .tables .tags) (s .tables .counts))
+        (written (placed (x .k) a (x .few) cell .line) (placed (x .k) a (x .few) cell .tag) (countedBy count n .count) (s .tables .tags) (s .tables .counts))
         (writtenOf Nothing (s .tables .tags) (s .tables .counts))
 
     abbrev byteAfter : ℕ
@@ -245,10 +271,10 @@ module _ (rules : Settings → Rules) (site : Site) (W U : ℕ) (ok : Lawful (ru
     abbrev judgedEvent : Event
     judgedEvent =
         judgedAt (s .clock) bytes
-        (answer.Judged verdict (countedBy count new .count) (replacementOf (site .settings .keys) (2 ^ a) (placed k a few cell .line) (wrote new .replaced)))
+        (answer.Judged verdict (countedBy count new .count) (replacementOf (site .settings .keys) (2 ^ a) (placed (x .k) a (x .few) cell .line) (wrote new .replaced)))
 
     slot-lt : slot < site .records
-    slot-lt = ok .slot-lt (site .settings .keys) (packet .header) (packet .fromPlant) (site .records) some-records
+    slot-lt = x .ok .slot-lt (site .settings .keys) (packet .header) (packet .fromPlant) (site .records) (x .some-records)
 
     here : SlotKept s h slot
     here = i .slots slot slot-lt
@@ -306,7 +332,7 @@ module _ (rules : Settings → Rules) (site : Site) (W U : ℕ) (ok : Lawful (ru
         (multiplesPassed dmiss (start .clock) (s .clock) * r .point)
         ((credits rules site address h + cond (eqb cell address) (creditOf verdict) 0) * r .point)
         (replacements address h
-        + cond (names address (addressTold (replacementOf (site .settings .keys) (2 ^ a) (placed k a few cell .line) (wrote new .replaced)))) 1 0)
+        + cond (names address (addressTold (replacementOf (site .settings .keys) (2 ^ a) (placed (x .k) a (x .few) cell .line) (wrote new .replaced)))) 1 0)
 
     abbrev attempted : Option ℤ
     attempted = cond (isUnmarked (marksOf byte)) (r .attempt (packet .header) count) none
@@ -318,7 +344,7 @@ module _ (rules : Settings → Rules) (site : Site) (W U : ℕ) (ok : Lawful (ru
         not-some e = let z : _≡_ {A = ℕ} 0 1 = cc in omega arith
 
         go : (t : Bool) → NoLower count (cond t (r .attempt (packet .header) count) none)
-        go true d e = ok .attempt-up (packet .header) count d e
+        go true d e = x .ok .attempt-up (packet .header) count d e
         go false d e = absurd (not-some e)
 
     own-books : Holds (r .threshold) U (countIn start cell) (countedBy count new .count)
@@ -327,18 +353,18 @@ module _ (rules : Settings → Rules) (site : Site) (W U : ℕ) (ok : Lawful (ru
         ((credits rules site cell h + creditOf verdict) * r .point)
         (replacements cell h)
     own-books =
-        own-account (r .floor) (r .point) (r .weight (packet .header)) (ok .room) (ok .wide) (ok .in-sixteen-bits) (ok .weight-le (packet .header))
-        (ok .floor-low) (ok .floor-near) (credits rules site cell h) (i .books cell small) attempted verdict
-        (λ e. under (r .threshold) count (ok .block-pos) (rule .four-open e))
+        own-account (r .floor) (r .point) (r .weight (packet .header)) (x .ok .room) (x .ok .wide) (x .ok .in-sixteen-bits) (x .ok .weight-le (packet .header))
+        (x .ok .floor-low) (x .ok .floor-near) (credits rules site cell h) (i .books cell small) attempted verdict
+        (λ e. under (r .threshold) count (x .ok .block-pos) (rule .four-open e))
         (λ e. reaches (r .threshold) count (rule .six-blocked e))
         no-lower
       where
         rule : Ruled (packet .fromPlant) (isBlocked (r .threshold) count) (isUnmarked (marksOf byte)) verdict
         rule = ruled (packet .fromPlant) (isBlocked (r .threshold) count) (marksOf byte) (packet .header .transport .kind)
 
-    own-written : (n : Option ℤ) → dn (countedBy count n .count) < 32768 → countAt k a few (wrote n .tags) (wrote n .counts) cell ≡ countedBy count n .count
+    own-written : (n : Option ℤ) → dn (countedBy count n .count) < 32768 → countAt (x .k) a (x .few) (wrote n .tags) (wrote n .counts) cell ≡ countedBy count n .count
     own-written none full = refl
-    own-written (some d) full = own-count k a few (s .tables .tags) (s .tables .counts) (i .sound .tags-long) (i .sound .counts-long) cell d full
+    own-written (some d) full = own-count (x .k) a (x .few) (s .tables .tags) (s .tables .counts) (i .sound .tags-long) (i .sound .counts-long) cell d full
 
     own-after : BooksAfter cell
     own-after =
@@ -354,21 +380,21 @@ module _ (rules : Settings → Rules) (site : Site) (W U : ℕ) (ok : Lawful (ru
     module _ (other : ℕ) (other-small : other < 2 ^ 32) (apart : other ≢ cell) where
       abbrev OtherAfter : Option ℤ → Type 0
       OtherAfter n =
-          Holds (r .threshold) U (countIn start other) (countAt k a few (wrote n .tags) (wrote n .counts) other)
+          Holds (r .threshold) U (countIn start other) (countAt (x .k) a (x .few) (wrote n .tags) (wrote n .counts) other)
           (freshContacts rules site held other h) (multiplesPassed dmiss (start .clock) (s .clock) * r .point) (credits rules site other h * r .point)
           (replacements other h
-          + cond (names other (addressTold (replacementOf (site .settings .keys) (2 ^ a) (placed k a few cell .line) (wrote n .replaced)))) 1 0)
+          + cond (names other (addressTold (replacementOf (site .settings .keys) (2 ^ a) (placed (x .k) a (x .few) cell .line) (wrote n .replaced)))) 1 0)
 
       other-written : (n : Option ℤ) → OtherAfter n
       other-written none = on-named (i .books other other-small) 0
       other-written (some d) =
-          go (other-count k a few (s .tables .tags) (s .tables .counts) (i .sound .tags-long) (i .sound .counts-long) cell d (i .sound .once) other other-small small apart)
+          go (other-count (x .k) a (x .few) (s .tables .tags) (s .tables .counts) (i .sound .tags-long) (i .sound .counts-long) cell d (i .sound .once) other other-small small apart)
         where
           named : Bool
-          named = isNamed k a few (s .tables .tags) (s .tables .counts) (i .sound .tags-long) (i .sound .counts-long) cell d other
+          named = isNamed (x .k) a (x .few) (s .tables .tags) (s .tables .counts) (i .sound .tags-long) (i .sound .counts-long) cell d other
 
           c′ : ℤ
-          c′ = countAt k a few (wrote (some d) .tags) (wrote (some d) .counts) other
+          c′ = countAt (x .k) a (x .few) (wrote (some d) .tags) (wrote (some d) .counts) other
 
           go : (c′ ≡ countIn s other) ⊎ ((named ≡ true) × (c′ ≡ pos 0)) → OtherAfter (some d)
           go (inl e) = recast (on-named (i .books other other-small) (cond named 1 0)) e refl refl refl refl
@@ -389,12 +415,12 @@ module _ (rules : Settings → Rules) (site : Site) (W U : ℕ) (ok : Lawful (ru
     wrote-lengths : (n : Option ℤ) → (length (wrote n .tags) ≡ 4 * 2 ^ a) × (length (wrote n .counts) ≡ 4 * 2 ^ a)
     wrote-lengths none = (i .sound .tags-long, i .sound .counts-long)
     wrote-lengths (some d) =
-        let same = same-lengths (placed k a few cell .line) (placed k a few cell .tag) d (s .tables .tags) (s .tables .counts) in
+        let same = same-lengths (placed (x .k) a (x .few) cell .line) (placed (x .k) a (x .few) cell .tag) d (s .tables .tags) (s .tables .counts) in
         (same .0 ∙ i .sound .tags-long, same .1 ∙ i .sound .counts-long)
 
     wrote-once : (n : Option ℤ) → Once (wrote n .tags) (wrote n .counts)
     wrote-once none = i .sound .once
-    wrote-once (some d) = once-after (s .tables .tags) (s .tables .counts) (i .sound .once) (placed k a few cell .line) (placed k a few cell .tag) d
+    wrote-once (some d) = once-after (s .tables .tags) (s .tables .counts) (i .sound .once) (placed (x .k) a (x .few) cell .line) (placed (x .k) a (x .few) cell .tag) d
 
     run-judged : Run judgedState (judgedEvent ∷ h)
     run-judged =
@@ -557,14 +583,52 @@ module _ (rules : Settings → Rules) (site : Site) (W U : ℕ) (ok : Lawful (ru
         go zero e = clock-at time (time-in-order (site .settings) (length (s .tables .records)) (length (s .tables .tags)) (length (s .tables .counts)) (s .clock) time e)
         go (suc n) e = same
 
+  -- ---- what is answered 4 is what is fresh
+  abbrev Answered : ℕ → List Event → Type 0
+  Answered address h = freshContacts rules site held address h ≡ fours rules site address h
+
+  module _ (s : State) (h : List Event) (i : Run s h) (address : ℕ) (so : Answered address h) where
+    four-ours : (bytes : List ℕ) → cellAddress (oursOf site bytes) < 2 ^ 32 → (fromPlant : Bool) → oursOf site bytes .fromPlant ≡ fromPlant
+        → Answered address (judgedAt (s .clock) bytes (ours rules (site .settings) (headerOf bytes) fromPlant (s .tables) .answer) ∷ h)
+    unfolding rulingOf
+    four-ours bytes small fromPlant e =
+        subst (λ (outcome : Outcome). Answered address (judgedAt (s .clock) bytes (outcome .answer) ∷ h)) (ours-is s h i bytes small fromPlant e)
+        (λ j. so j + cond (eqb (cellAddress (oursOf site bytes)) address && fresh-is s h i bytes small j) (r .weight (headerOf bytes)) 0)
+
+  module _ (s : State) (h : List Event) (i : Run s h) (address : ℕ) (so : Answered address h) where
+    four-direction : (time : ℕ) (bytes : List ℕ) → Fits (packetAt time bytes) → s .clock ≤ time → (direction : Direction)
+        → directionIn (site .cell) (site .plant) (headerOf bytes) ≡ direction
+        → Answered address (judgedAt time bytes (accepted rules (site .settings) (headerOf bytes) direction time s .answer) ∷ h)
+    unfolding byDirection
+    four-direction time bytes small l FromCell e =
+        subst (λ (t : ℕ). Answered address (judgedAt t bytes (accepted rules (site .settings) (headerOf bytes) FromCell time s .answer) ∷ h))
+        (clock-at s h i time l) (four-ours (timed time s) h (run-onward time s h l i) address so bytes small false (ap comesFromPlant e))
+    four-direction time bytes small l FromPlant e =
+        subst (λ (t : ℕ). Answered address (judgedAt t bytes (accepted rules (site .settings) (headerOf bytes) FromPlant time s .answer) ∷ h))
+        (clock-at s h i time l) (four-ours (timed time s) h (run-onward time s h l i) address so bytes small true (ap comesFromPlant e))
+    four-direction time bytes small l NotOurs e = so
+
+    four-call : (call : Call) → Fits call → Answered address (eventOf rules site s call ∷ h)
+    unfolding eventOf judged
+    four-call (packetAt time bytes) small = go (packetRefusal (site .settings) (site .cell) (site .plant) time bytes s) refl
+      where
+        after : After Answer
+        after = accepted rules (site .settings) (headerOf bytes) (directionIn (site .cell) (site .plant) (headerOf bytes)) time s
+
+        go : (n : ℕ) → packetRefusal (site .settings) (site .cell) (site .plant) time bytes s ≡ n
+            → Answered address (judgedAt time bytes (unlessRefused answer.Refused n s after .answer) ∷ h)
+        go zero e = four-direction time bytes small (early s h i time bytes e) (directionIn (site .cell) (site .plant) (headerOf bytes)) refl
+        go (suc n) e = so
+    four-call (timeAlone time) fits = so
+
   -- ---- a packet that is answered 6
   abbrev Enough : List ℕ → List Event → Type 0
   Enough bytes h =
       r .threshold ≤ freshContacts rules site held (cellAddress (oursOf site bytes)) h + up (countIn start (cellAddress (oursOf site bytes)))
 
-  module _ (s : State) (h : List Event) (i : Run s h) (bytes : List ℕ) (small : cellAddress (oursOf site bytes) < 2 ^ 32) {c : ℤ} {x : Replacement} where
+  module _ (s : State) (h : List Event) (i : Run s h) (bytes : List ℕ) (small : cellAddress (oursOf site bytes) < 2 ^ 32) {c : ℤ} {gone : Replacement} where
     six-ours : (fromPlant : Bool) → oursOf site bytes .fromPlant ≡ fromPlant
-        → ours rules (site .settings) (headerOf bytes) fromPlant (s .tables) .answer ≡ answer.Judged Blocked c x → Enough bytes h
+        → ours rules (site .settings) (headerOf bytes) fromPlant (s .tables) .answer ≡ answer.Judged Blocked c gone → Enough bytes h
     unfolding rulingOf
     six-ours fromPlant e told =
         let packet = oursOf site bytes in
@@ -576,27 +640,27 @@ module _ (rules : Settings → Rules) (site : Site) (W U : ℕ) (ok : Lawful (ru
         (ruled (packet .fromPlant) (isBlocked (r .threshold) count) (marksOf byte) (packet .header .transport .kind) .six-blocked (ap isSix six)))
 
   module _ (s : State) (h : List Event) (i : Run s h) where
-    six-direction : (time : ℕ) (bytes : List ℕ) → Fits (packetAt time bytes) → s .clock ≤ time → {c : ℤ} {x : Replacement} → (direction : Direction) → directionIn (site .cell) (site .plant) (headerOf bytes) ≡ direction
-        → byDirection rules (site .settings) (headerOf bytes) direction (timed time s .tables) .answer ≡ answer.Judged Blocked c x → Enough bytes h
+    six-direction : (time : ℕ) (bytes : List ℕ) → Fits (packetAt time bytes) → s .clock ≤ time → {c : ℤ} {gone : Replacement} → (direction : Direction) → directionIn (site .cell) (site .plant) (headerOf bytes) ≡ direction
+        → byDirection rules (site .settings) (headerOf bytes) direction (timed time s .tables) .answer ≡ answer.Judged Blocked c gone → Enough bytes h
     unfolding byDirection
     six-direction time bytes small l FromCell e told = six-ours (timed time s) h (run-onward time s h l i) bytes small false (ap comesFromPlant e) told
     six-direction time bytes small l FromPlant e told = six-ours (timed time s) h (run-onward time s h l i) bytes small true (ap comesFromPlant e) told
     six-direction time bytes small l NotOurs e told = absurd (not-ours told)
 
-    six-call : (call : Call) → Fits call → (time : ℕ) (bytes : List ℕ) (c : ℤ) (x : Replacement)
-        → eventOf rules site s call ≡ judgedAt time bytes (answer.Judged Blocked c x) → Enough bytes h
+    six-call : (call : Call) → Fits call → (time : ℕ) (bytes : List ℕ) (c : ℤ) (gone : Replacement)
+        → eventOf rules site s call ≡ judgedAt time bytes (answer.Judged Blocked c gone) → Enough bytes h
     unfolding eventOf judged
-    six-call (packetAt time′ bytes′) small time bytes c x e =
+    six-call (packetAt time′ bytes′) small time bytes c gone e =
         subst (λ (b : List ℕ). Enough b h) (same-bytes e) (go (packetRefusal (site .settings) (site .cell) (site .plant) time′ bytes′ s) refl (same-answer e))
       where
         after : After Answer
         after = accepted rules (site .settings) (headerOf bytes′) (directionIn (site .cell) (site .plant) (headerOf bytes′)) time′ s
 
         go : (n : ℕ) → packetRefusal (site .settings) (site .cell) (site .plant) time′ bytes′ s ≡ n
-            → unlessRefused answer.Refused n s after .answer ≡ answer.Judged Blocked c x → Enough bytes′ h
+            → unlessRefused answer.Refused n s after .answer ≡ answer.Judged Blocked c gone → Enough bytes′ h
         go zero q told = six-direction time′ bytes′ small (early s h i time′ bytes′ q) (directionIn (site .cell) (site .plant) (headerOf bytes′)) refl told
         go (suc n) q told = absurd (not-judged told)
-    six-call (timeAlone time′) fits time bytes c x e = absurd (not-passed e)
+    six-call (timeAlone time′) fits time bytes c gone e = absurd (not-passed e)
 
   -- ---- a run
   abbrev pub AllFit : List Call → Type 0
@@ -615,6 +679,13 @@ module _ (rules : Settings → Rules) (site : Site) (W U : ℕ) (ok : Lawful (ru
     clock-is (call ∷ calls) fit =
         clock-call (left rules site start calls) (history rules site start calls) (run calls (fit .1)) (clock-is calls (fit .1)) call
 
+    -- verdict 4 is answered exactly to fresh contacts
+    pub answered : (calls : List Call) → AllFit calls → (address : ℕ) → Answered address (history rules site start calls)
+    unfolding left history
+    answered [] fit address = refl
+    answered (call ∷ calls) fit address =
+        four-call (left rules site start calls) (history rules site start calls) (run calls (fit .1)) address (answered calls (fit .1) address) call (fit .0)
+
     -- the bound of demand 3, from any start
     pub bound : (calls : List Call) → AllFit calls → (address : ℕ) → address < 2 ^ 32
         → freshContacts rules site held address (history rules site start calls) + min (up (countIn start address)) U
@@ -627,12 +698,12 @@ module _ (rules : Settings → Rules) (site : Site) (W U : ℕ) (ok : Lawful (ru
         (clock-is calls fit) (holds-bound (run calls fit .books address l))
 
     -- no packet is dropped as blocked before enough fresh contacts of its address were forwarded
-    pub not-before : (calls : List Call) → AllFit calls → (newer older : List Event) (time : ℕ) (bytes : List ℕ) (c : ℤ) (x : Replacement)
-        → history rules site start calls ≡ newer ++ (judgedAt time bytes (answer.Judged Blocked c x) ∷ older) → Enough bytes older
+    pub not-before : (calls : List Call) → AllFit calls → (newer older : List Event) (time : ℕ) (bytes : List ℕ) (c : ℤ) (gone : Replacement)
+        → history rules site start calls ≡ newer ++ (judgedAt time bytes (answer.Judged Blocked c gone) ∷ older) → Enough bytes older
     unfolding left history
-    not-before [] fit [] older time bytes c x e = absurd (not-nil e)
-    not-before [] fit (y ∷ newer) older time bytes c x e = absurd (not-nil e)
-    not-before (call ∷ calls) fit [] older time bytes c x e =
+    not-before [] fit [] older time bytes c gone e = absurd (not-nil e)
+    not-before [] fit (y ∷ newer) older time bytes c gone e = absurd (not-nil e)
+    not-before (call ∷ calls) fit [] older time bytes c gone e =
         subst (λ (h : List Event). Enough bytes h) (same-tail e)
-        (six-call (left rules site start calls) (history rules site start calls) (run calls (fit .1)) call (fit .0) time bytes c x (same-head e))
-    not-before (call ∷ calls) fit (y ∷ newer) older time bytes c x e = not-before calls (fit .1) newer older time bytes c x (same-tail e)
+        (six-call (left rules site start calls) (history rules site start calls) (run calls (fit .1)) call (fit .0) time bytes c gone (same-head e))
+    not-before (call ∷ calls) fit (y ∷ newer) older time bytes c gone e = not-before calls (fit .1) newer older time bytes c gone (same-tail e)

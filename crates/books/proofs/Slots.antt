@@ -20,17 +20,10 @@ use Rattle.packet.specs.declared.kinds.Kind.{Kind}
 use Rattle.verdicts.specs.declared.Verdict.{Verdict}
 use Rattle.verdicts.specs.declared.Verdict.the-variants.{Uncounted, CreditOfOne, CreditOfTwo, FreshContact, Hygiene, Blocked}
 use Rattle.verdicts.specs.Verdicts.{isForwarded, isUdp, isOpening, isSynAck, isClosing, isCounted, fromThePlant, fromTheCell, fromBlockedCell, verdictOf, plantBegins, marksAfter, recordAfter}
+use Rattle.history.specs.Answered.{isFour}
 use Rattle.history.specs.Fresh.{Ours, Forwarded, closesFromPlant, isLive}
 
 -- ---- verdicts: 4 is the only one that forwards a cell packet on a record with neither mark
-abbrev pub isFour : Verdict → Bool
-isFour Uncounted = false
-isFour CreditOfOne = false
-isFour CreditOfTwo = false
-isFour FreshContact = true
-isFour Hygiene = false
-isFour Blocked = false
-
 abbrev pub isSix : Verdict → Bool
 isSix Uncounted = false
 isSix CreditOfOne = false
@@ -190,7 +183,7 @@ module _ (dconn start b0 : ℕ) where
   latest [] = start
   latest (last ∷ earlier) = last .time
 
-  abbrev since : ℕ → List Forwarded → ℕ
+  abbrev pub since : ℕ → List Forwarded → ℕ
   since now [] = ageOf b0 + multiplesPassed 60 start now
   since now (last ∷ earlier) = multiplesPassed 60 (last .time) now
 

@@ -1,3 +1,5 @@
--- What is proved of the whole.
+-- The theorems.
 pub mod Bench
+pub mod Cold
 pub mod Demand3
+pub mod Memory

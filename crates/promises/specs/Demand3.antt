@@ -13,35 +13,54 @@ use Rattle.verdicts.specs.declared.Verdict.the-variants.{Blocked}
 use Rattle.rulings.specs.declared.answers.Replacement.{Replacement}
 use Rattle.rulings.specs.declared.answers.Answer.the-variants.{Judged}
 use Rattle.rulings.specs.Rules.{document01}
-use Rattle.gateway.specs.Calls.{State, started}
+use Rattle.gateway.specs.Calls.{State, startRefusalAt, started}
 use Rattle.history.specs.Runs.{Site, Call, packetAt, timeAlone, Event, judgedAt, history}
 use Rattle.history.specs.Fresh.{oursOf, cellAddress, nothingHeld, freshContacts, decays, credits, replacements}
 
--- What the types of the code's arguments say already: keys are 32-bit words, and a packet is made of bytes.
+-- ---- a gateway and its one cold start
+-- its settings and side lists, the tables and clock that it is lent, and the time at which it starts cold
+pub record Gateway : Type 0 where
+  pub settings : Settings
+  pub cell : List ℕ
+  pub plant : List ℕ
+  pub lent : State
+  pub start : ℕ
+
+-- each number of a list is below a limit
 abbrev pub EachBelow : ℕ → List ℕ → Type 0
 EachBelow limit [] = Unit {0}
 EachBelow limit (x ∷ xs) = (x < limit) × EachBelow limit xs
+
+-- the cold start is not refused. That keys are 32-bit words, and packets made of bytes, is what the types of the code's arguments say.
+pub record StartsCold (g : Gateway) : Type 0 where
+  pub not-refused : startRefusalAt (g .settings) (g .lent) ≡ 0
+  pub keys-are-words : EachBelow (2 ^ 32) (g .settings .keys)
 
 abbrev pub OfBytes : List Call → Type 0
 OfBytes [] = Unit {0}
 OfBytes (packetAt time bytes ∷ calls) = EachBelow 256 bytes × OfBytes calls
 OfBytes (timeAlone time ∷ calls) = OfBytes calls
 
--- a gateway's settings and side lists, the tables and clock that it is lent, and the time at which it starts cold
-module _ (settings : Settings) (cell plant : List ℕ) (lent : State) (start : ℕ) where
+-- ---- its run
+module _ (g : Gateway) where
+  -- "with settings, side lists and sizes unchanged"
   abbrev pub site : Site
-  site = record { settings = settings; cell = cell; plant = plant; records = length (lent .tables .records) }
+  site = record { settings = g .settings; cell = g .cell; plant = g .plant; records = length (g .lent .tables .records) }
 
-  -- what happened, call by call, from the cold start on
+  -- the state that the cold start leaves
+  abbrev pub first : State
+  first = started (g .settings) (g .start) (g .lent) .state
+
+  -- what happened, call by call, from there on
   abbrev pub happened : List Call → List Event
-  happened calls = history document01 site (started settings start lent .state) calls
+  happened calls = history document01 site first calls
 
-  -- of a history: the fresh contacts of an address that were forwarded, D, and the address's H and R
+  -- of a history: an address's fresh contacts that were forwarded, D, and the address's H and R
   abbrev pub F : ℕ → List Event → ℕ
   F address h = freshContacts document01 site nothingHeld address h
 
   abbrev pub D : List Event → ℕ
-  D h = decays document01 site start h
+  D h = decays document01 site (g .start) h
 
   abbrev pub H : ℕ → List Event → ℕ
   H address h = credits document01 site address h
@@ -49,12 +68,16 @@ module _ (settings : Settings) (cell plant : List ℕ) (lent : State) (start : �
   abbrev pub R : ℕ → List Event → ℕ
   R address h = replacements address h
 
+  abbrev pub T : ℕ
+  T = g .settings .threshold
+
+  -- ---- the demand
   pub record Demand3 (calls : List Call) : Type 0 where
-    -- "the fresh contacts forwarded are never more than T + D + H + T × R"
+    -- "for each cell address the fresh contacts forwarded are never more than T + D + H + T × R"
     pub bounded : (address : ℕ) → address < 2 ^ 32
-        → F address (happened calls)
-        ≤ settings .threshold + D (happened calls) + H address (happened calls) + settings .threshold * R address (happened calls)
-    -- "no packet of its is dropped as blocked until at least T of its fresh contacts were forwarded": whatever was answered 6, before it
+        → F address (happened calls) ≤ T + D (happened calls) + H address (happened calls) + T * R address (happened calls)
+    -- "no packet of its is dropped as blocked until at least T of its fresh contacts were forwarded": wherever 6 was answered, by what
+    -- came before
     pub not-before : (after before : List Event) (time : ℕ) (bytes : List ℕ) (count : ℤ) (replaced : Replacement)
         → happened calls ≡ after ++ (judgedAt time bytes (Judged Blocked count replaced) ∷ before)
-        → settings .threshold ≤ F (cellAddress (oursOf site bytes)) before
+        → T ≤ F (cellAddress (oursOf site bytes)) before

@@ -1,3 +1,4 @@
--- What is promised: the numbered bench examples, and demand 3.
+-- What the promises are stated with.
 pub mod Bench
 pub mod Demand3
+pub mod Memory

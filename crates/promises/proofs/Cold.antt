@@ -1,0 +1,163 @@
+-- A cold start that is not refused is a good start of a run over lawful rules, in which nothing is live yet and every count is 0.
+-- Assumes nothing.
+use mathlib.Core.Bool.{Bool, true, false, not, _&&_, and-false}
+use mathlib.Core.List.{List, [], _∷_}
+use mathlib.Core.Option.{none, some}
+use mathlib.Core.Path.{_≡_, refl, sym, ap, subst, _∙_}
+use Prim.Native.Nat.{ℕ, zero, suc, _+_, _*_, _^_, _<_}
+use native.Mathlib.Omega.{arith}
+use lib.Dec.{leb}
+use lib.IntN.{ℤ, pos}
+use lib.ListN.{length, getD, replicate, length-replicate}
+use lib.Pow.{pow-pos}
+use Rattle.laws.specs.Signed.{minus}
+use Rattle.laws.proofs.Signed.{dn, le-in, one-part}
+use Rattle.laws.proofs.Tests.{true-is-not-false}
+use Rattle.settings.specs.declared.Settings.{Settings}
+use Rattle.settings.specs.Settings.{badSettings}
+use Rattle.settings.proofs.Ranges.{InRange, in-range}
+use Rattle.permute.proofs.Inverse.{Keys}
+use Rattle.places.proofs.Places.{slot-lt}
+use Rattle.packet.specs.Header.{headerOf}
+use Rattle.records.specs.Records.{isCold, ageOf}
+use Rattle.records.proofs.Ages.{low-is-cold}
+use Rattle.counts.specs.Counts.{isEmpty}
+use Rattle.entries.proofs.Once.{once-cold, count-cold}
+use Rattle.tables.specs.Sizes.{badSizes}
+use Rattle.tables.specs.Clock.{multiplesPassed}
+use Rattle.tables.proofs.Powers.{Sized, sized}
+use Rattle.rulings.specs.Rules.{cellOf, document01}
+use Rattle.cold.specs.Cold.{coldTables}
+use Rattle.refusals.proofs.Tests.{good-start}
+use Rattle.gateway.specs.declared.Reply.the-variants.{Refused, Done}
+use Rattle.gateway.specs.Calls.{State, unlessRefused, coldState, started}
+use Rattle.history.specs.Runs.{Call, packetAt, timeAlone}
+use Rattle.history.specs.Fresh.{oursOf, nothingHeld}
+use Rattle.books.proofs.Lawful.{Lawful}
+use Rattle.books.proofs.Runs.{Setup, held, countIn, Sound, Good, AllFit}
+use Rattle.promises.specs.Demand3.{Gateway, EachBelow, StartsCold, OfBytes, site, first}
+
+-- ---- what the types say
+at-below : (limit : ℕ) → 0 < limit → (l : List ℕ) (n : ℕ) → EachBelow limit l → getD l n 0 < limit
+at-below limit p [] n e = p
+at-below limit p (x ∷ xs) zero e = e .0
+at-below limit p (x ∷ xs) (suc n) e = at-below limit p xs n (e .1)
+
+pub keys-fit : (keys : List ℕ) → EachBelow (2 ^ 32) keys → Keys keys
+keys-fit keys e = record { fit = λ r h. at-below (2 ^ 32) (omega arith) keys r e }
+
+-- an address of bytes has 32 bits
+address-fits : (fromPlant : Bool) (bytes : List ℕ) → EachBelow 256 bytes → cellOf (headerOf bytes) fromPlant < 2 ^ 32
+unfolding headerOf
+address-fits true bytes e =
+    omega (arith, at-below 256 (omega arith) bytes 16 e, at-below 256 (omega arith) bytes 17 e, at-below 256 (omega arith) bytes 18 e, at-below 256 (omega arith) bytes 19 e)
+address-fits false bytes e =
+    omega (arith, at-below 256 (omega arith) bytes 12 e, at-below 256 (omega arith) bytes 13 e, at-below 256 (omega arith) bytes 14 e, at-below 256 (omega arith) bytes 15 e)
+
+-- ---- document 01's rules are lawful for settings in range
+not-some : {d : ℤ} → none ≡ some d → ⊥
+not-some e = let z : _≡_ {A = ℕ} 0 1 = cc in omega arith
+
+pub document01-lawful : (settings : Settings) → InRange settings → Lawful (document01 settings) 1 (settings .threshold)
+document01-lawful settings r =
+    let t = le-in (r .threshold .low) in
+    let top = le-in (r .threshold .high) in
+    let f = le-in (r .floor .high) in
+    let bottom = le-in (r .floor .low) in
+    let one = one-part (settings .floor) in
+    record {
+      block-pos = omega arith;
+      room = omega arith;
+      wide = omega arith;
+      in-sixteen-bits = omega arith;
+      weight-le = λ h. omega arith;
+      floor-low = omega arith;
+      floor-near = omega arith;
+      attempt-up = λ h c d e. absurd (not-some e);
+      slot-lt = λ keys h fromPlant records p. slot-lt keys _ _ _ records p;
+    }
+
+module _ (g : Gateway) (cold : StartsCold g) where
+  -- the cold start is not refused, so settings and sizes are good
+  good : (badSettings (g .settings) ≡ false)
+      × (badSizes (length (g .lent .tables .records)) (length (g .lent .tables .tags)) (length (g .lent .tables .counts)) ≡ false)
+  good = good-start (g .settings) _ _ _ (cold .not-refused)
+
+  pub range : InRange (g .settings)
+  range = in-range (g .settings) (good .0)
+
+  pub sizes : Sized (length (g .lent .tables .records)) (length (g .lent .tables .tags)) (length (g .lent .tables .counts))
+  sizes = sized _ _ _ (good .1)
+
+  -- so this is a run over lawful rules
+  unfoldable pub setup : Setup
+  setup =
+      record {
+        rules = document01;
+        site = site g;
+        W = 1;
+        U = g .settings .threshold;
+        ok = document01-lawful (g .settings) range;
+        k = keys-fit (g .settings .keys) (cold .keys-are-words);
+        a = sizes .line-count .exponent;
+        few = omega (arith, sizes .line-count .most);
+        narrow = omega (arith, le-in (range .dconn .high));
+        some-records = subst (λ (n : ℕ). 0 < n) (sym (sizes .record-count .is)) (pow-pos (sizes .record-count .exponent));
+      }
+
+  -- that starts in this state
+  abbrev pub cold-state : State
+  cold-state = coldState (g .start) (g .lent)
+
+  first-is : first g ≡ cold-state
+  unfolding started
+  first-is = ap (λ (number : ℕ). unlessRefused Refused number (g .lent) (record { answer = Done; state = cold-state }) .state) (cold .not-refused)
+
+  -- every record is 0, and no address has an entry
+  zero-record : (n slot : ℕ) → _≡_ {A = ℕ} (getD (replicate n 0) slot 0) 0
+  zero-record zero slot = refl
+  zero-record (suc n) zero = refl
+  zero-record (suc n) (suc slot) = zero-record n slot
+
+  cold-record : (slot : ℕ) → isCold (getD (cold-state .tables .records) slot 0) ≡ true
+  unfolding coldTables
+  cold-record slot = ap isCold (zero-record (length (g .lent .tables .records)) slot) ∙ low-is-cold 0 (omega arith)
+
+  pub no-count : (address : ℕ) → countIn setup cold-state cold-state address ≡ pos 0
+  unfolding coldTables isEmpty
+  no-count address = count-cold (cold-state .tables .tags) (length (g .lent .tables .counts)) (minus 32768) refl _ _
+
+  sound : Sound setup cold-state cold-state
+  unfolding setup coldTables isEmpty
+  sound =
+      let lines : 4 * sizes .lines ≡ 4 * 2 ^ (sizes .line-count .exponent) = ap (λ (n : ℕ). 4 * n) (sizes .line-count .is) in
+      record {
+        records-long = length-replicate (length (g .lent .tables .records)) 0;
+        tags-long = length-replicate (length (g .lent .tables .tags)) 0 ∙ sizes .four-each ∙ lines;
+        counts-long = length-replicate (length (g .lent .tables .counts)) (minus 32768) ∙ sizes .alike ∙ sizes .four-each ∙ lines;
+        once = once-cold (cold-state .tables .tags) (length (g .lent .tables .counts)) (minus 32768) refl;
+      }
+
+  pub good-start-state : Good setup cold-state
+  good-start-state =
+      record {
+        sound = sound;
+        young = λ slot e. true-is-not-false (cold-record slot) e;
+        full = λ address l. omega (arith, ap dn (no-count address));
+      }
+
+  -- nothing is live yet
+  nothing-was : held setup cold-state ≡ nothingHeld
+  nothing-was =
+      λ i slot now. (ap (λ (t : Bool). leb (ageOf (getD (cold-state .tables .records) slot 0) + multiplesPassed 60 (g .start) now) (setup .site .settings .dconn) && not t) (cold-record slot)
+      ∙ and-false (leb (ageOf (getD (cold-state .tables .records) slot 0) + multiplesPassed 60 (g .start) now) (setup .site .settings .dconn))) i
+
+  -- so what holds of the general run, by what was live when it began and the state that it began in, holds of this one
+  pub so : (P : (ℕ → ℕ → Bool) → State → Type 0) → P (held setup cold-state) cold-state → P nothingHeld (first g)
+  so P p = subst (λ (s : State). P nothingHeld s) (sym first-is) (subst (λ (began : ℕ → ℕ → Bool). P began cold-state) nothing-was p)
+
+  pub all-fit : (calls : List Call) → OfBytes calls → AllFit setup cold-state calls
+  unfolding setup
+  all-fit [] e = tt
+  all-fit (packetAt time bytes ∷ calls) e = (address-fits (oursOf (site g) bytes .fromPlant) bytes (e .0), all-fit calls (e .1))
+  all-fit (timeAlone time ∷ calls) e = (tt, all-fit calls e)

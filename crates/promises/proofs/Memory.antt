@@ -1,0 +1,71 @@
+-- What the gateway remembers is what happened.
+-- Assumes nothing.
+use mathlib.Core.Bool.{Bool, true, false, not}
+use mathlib.Core.List.{List, _∷_}
+use mathlib.Core.Path.{_≡_, refl, sym, ap, _∙_}
+use Prim.Native.Nat.{ℕ, _<_}
+use lib.ListN.{getD}
+use Rattle.records.specs.Records.{isCold, ageOf}
+use Rattle.tables.specs.Clock.{multiplesPassed}
+use Rattle.rulings.specs.Rules.{document01}
+use Rattle.gateway.specs.Calls.{State}
+use Rattle.history.specs.Runs.{Call, left, history}
+use Rattle.history.specs.Fresh.{Forwarded, isLive, nothingHeld, forwardedOn, freshContacts}
+use Rattle.history.specs.Answered.{fours}
+use Rattle.history.proofs.Live.{live-is}
+use Rattle.books.proofs.Slots.{since, Kept}
+use Rattle.books.proofs.Runs.{run, answered}
+use Rattle.promises.specs.Demand3.{Gateway, StartsCold, OfBytes, site, first}
+use Rattle.promises.specs.Memory.{Memory}
+use Rattle.promises.proofs.Cold.{setup, cold-state, good-start-state, all-fit, so}
+
+not-false : (t : Bool) → not t ≡ true → t ≡ false
+not-false true e = sym e
+not-false false e = refl
+
+module _ (g : Gateway) (cold : StartsCold g) (calls : List Call) (bytes : OfBytes calls) where
+  abbrev byteAt : State → ℕ → ℕ
+  byteAt s slot = getD (left document01 (site g) s calls .tables .records) slot 0
+
+  abbrev clockAt : State → ℕ
+  clockAt s = left document01 (site g) s calls .clock
+
+  abbrev forwarded : State → ℕ → List Forwarded
+  forwarded s slot = forwardedOn document01 (site g) slot (history document01 (site g) s calls)
+
+  -- by what was live when the history began and the state that it began in
+  abbrev Marked : ℕ → (ℕ → ℕ → Bool) → State → Type 0
+  Marked slot began s = not (isCold (byteAt s slot)) ≡ isLive (began slot) (g .settings .dconn) (clockAt s) (forwarded s slot)
+
+  abbrev Aged : ℕ → (ℕ → ℕ → Bool) → State → Type 0
+  Aged slot began s =
+      isCold (byteAt s slot) ≡ false → (last : Forwarded) (earlier : List Forwarded) → forwarded s slot ≡ last ∷ earlier
+      → ageOf (byteAt s slot) ≡ multiplesPassed 60 (last .time) (clockAt s)
+
+  abbrev Answered : ℕ → (ℕ → ℕ → Bool) → State → Type 0
+  Answered address began s =
+      freshContacts document01 (site g) began address (history document01 (site g) s calls)
+      ≡ fours document01 (site g) address (history document01 (site g) s calls)
+
+  kept : (slot : ℕ) → slot < site g .records
+      → Kept (g .settings .dconn) (g .start) (getD (cold-state g cold .tables .records) slot 0) (byteAt (cold-state g cold) slot) (clockAt (cold-state g cold)) (forwarded (cold-state g cold) slot)
+  unfolding setup
+  kept slot l = run (setup g cold) (cold-state g cold) (good-start-state g cold) calls (all-fit g cold calls bytes) .slots slot l
+
+  marked : (slot : ℕ) → slot < site g .records → Marked slot nothingHeld (first g)
+  unfolding setup
+  marked slot l = so g cold (Marked slot) (kept slot l .mark)
+
+  pub memory : Memory g calls
+  unfolding setup
+  memory =
+      record {
+        marked-if-live = λ slot l. (
+          λ e. live-is (g .settings .dconn) _ _ .0 (sym (marked slot l) ∙ ap not e),
+          λ w. not-false _ (marked slot l ∙ live-is (g .settings .dconn) _ _ .1 w),
+        );
+        age-is = λ slot l. so g cold (Aged slot) (λ c last earlier e.
+            kept slot l .old c
+            ∙ ap (since (g .settings .dconn) (g .start) (getD (cold-state g cold .tables .records) slot 0) (clockAt (cold-state g cold))) e);
+        answered-as-fresh = λ address. so g cold (Answered address) (answered (setup g cold) (cold-state g cold) (good-start-state g cold) calls (all-fit g cold calls bytes) address);
+      }
