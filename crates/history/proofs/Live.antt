@@ -6,6 +6,7 @@ use mathlib.Core.List.{List, [], _∷_, _++_}
 use mathlib.Core.Logic.{_↔_}
 use mathlib.Core.Path.{_≡_, refl, sym, ap, subst, _∙_}
 use Prim.Native.Nat.{ℕ, _≤_}
+use native.Mathlib.Omega.{arith}
 use lib.Dec.{leb}
 use borrow.Author.Tests.{leb-true, le-leb}
 use Rattle.laws.proofs.Tests.{true-is-not-false, and-left, and-right, and-yes}
@@ -35,7 +36,7 @@ module _ (dconn : ℕ) where
 
       go : (closes : Bool) → closesFromPlant (last .packet) ≡ closes → (test (last .time) earlier ≡ true → Live dconn (last .time) earlier)
           → Live dconn now (last ∷ earlier)
-      go false c more = record { newer = []; it = last; older = earlier; some-earlier = refl; other-than = c; from-it-to-now = (gap, tt) }
+      go false c more = record { newer = []; it = last; older = earlier; some-earlier = refl; other-than = c; from-it-to-now = (omega (arith, gap), tt) }
       go true c more =
           let l = more (ap (λ (b : Bool). not b || test (last .time) earlier) (sym c) ∙ opened) in
           record {
@@ -44,7 +45,7 @@ module _ (dconn : ℕ) where
             older = l .older;
             some-earlier = ap (λ (xs : List Forwarded). last ∷ xs) (l .some-earlier);
             other-than = l .other-than;
-            from-it-to-now = (gap, l .from-it-to-now);
+            from-it-to-now = (omega (arith, gap), l .from-it-to-now);
           }
 
   or-later : (s : Bool) {t : Bool} → t ≡ true → (s || t) ≡ true
@@ -54,9 +55,9 @@ module _ (dconn : ℕ) where
   reached : (now : ℕ) (newer : List Forwarded) (it : Forwarded) (older : List Forwarded) → closesFromPlant (it .packet) ≡ false
       → NoLongGap dconn now (newer ++ (it ∷ [])) → test now (newer ++ (it ∷ older)) ≡ true
   reached now [] it older c n =
-      and-yes (le-leb _ _ (n .0)) (ap (λ (b : Bool). not b || test (it .time) older) c)
+      and-yes (le-leb _ dconn (omega (arith, n .0))) (ap (λ (b : Bool). not b || test (it .time) older) c)
   reached now (last ∷ newer) it older c n =
-      and-yes (le-leb _ _ (n .0)) (or-later (not (closesFromPlant (last .packet))) (reached (last .time) newer it older c (n .1)))
+      and-yes (le-leb _ dconn (omega (arith, n .0))) (or-later (not (closesFromPlant (last .packet))) (reached (last .time) newer it older c (n .1)))
 
   pub live-is : (now : ℕ) (forwarded : List Forwarded) → (test now forwarded ≡ true) ↔ Live dconn now forwarded
   live-is now forwarded =

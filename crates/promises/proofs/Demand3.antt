@@ -3,7 +3,7 @@
 use mathlib.Core.Bool.{Bool}
 use mathlib.Core.List.{List, _∷_, _++_}
 use mathlib.Core.Path.{_≡_, ap}
-use Prim.Native.Nat.{ℕ, _+_, _*_, _≤_}
+use Prim.Native.Nat.{ℕ, _≤_}
 use native.Mathlib.Omega.{arith}
 use lib.IntN.{ℤ}
 use Rattle.laws.proofs.Signed.{up, dn}
@@ -15,14 +15,14 @@ use Rattle.gateway.specs.Calls.{State}
 use Rattle.history.specs.Runs.{Call, Event, judgedAt, history}
 use Rattle.history.specs.Fresh.{oursOf, cellAddress, freshContacts}
 use Rattle.books.proofs.Runs.{bound, not-before}
-use Rattle.promises.specs.Demand3.{Gateway, StartsCold, OfBytes, site, D, H, R, T, Demand3}
+use Rattle.promises.specs.Demand3.{Gateway, StartsCold, OfBytes, site, most, least, Demand3}
 use Rattle.promises.proofs.Cold.{setup, cold-state, good-start-state, no-count, all-fit, so}
 
 module _ (g : Gateway) (cold : StartsCold g) (calls : List Call) (bytes : OfBytes calls) where
   -- both halves, by what was live when the history began and the state that it began in
   abbrev Bounded : ℕ → (ℕ → ℕ → Bool) → State → Type 0
   Bounded address began s =
-      freshContacts document01 (site g) began address h ≤ T g + D g h + H g address h + T g * R g address h
+      freshContacts document01 (site g) began address h ≤ most g address h
     where
       h : List Event
       h = history document01 (site g) s calls
@@ -31,7 +31,7 @@ module _ (g : Gateway) (cold : StartsCold g) (calls : List Call) (bytes : OfByte
   NotBefore began s =
       (after before : List Event) (time : ℕ) (packet : List ℕ) (count : ℤ) (replaced : Replacement)
       → history document01 (site g) s calls ≡ after ++ (judgedAt time packet (Judged Blocked count replaced) ∷ before)
-      → T g ≤ freshContacts document01 (site g) began (cellAddress (oursOf (site g) packet)) before
+      → least g ≤ freshContacts document01 (site g) began (cellAddress (oursOf (site g) packet)) before
 
   pub demand3 : Demand3 g calls
   unfolding setup

@@ -71,13 +71,19 @@ module _ (g : Gateway) where
   abbrev pub T : ℕ
   T = g .settings .threshold
 
+  -- "T + D + H + T × R", and "at least T"
+  abbrev pub most : ℕ → List Event → ℕ
+  most address h = T + D h + H address h + T * R address h
+
+  abbrev pub least : ℕ
+  least = T
+
   -- ---- the demand
   pub record Demand3 (calls : List Call) : Type 0 where
     -- "for each cell address the fresh contacts forwarded are never more than T + D + H + T × R"
-    pub bounded : (address : ℕ) → address < 2 ^ 32
-        → F address (happened calls) ≤ T + D (happened calls) + H address (happened calls) + T * R address (happened calls)
+    pub bounded : (address : ℕ) → address < 2 ^ 32 → F address (happened calls) ≤ most address (happened calls)
     -- "no packet of its is dropped as blocked until at least T of its fresh contacts were forwarded": wherever 6 was answered, by what
     -- came before
     pub not-before : (after before : List Event) (time : ℕ) (bytes : List ℕ) (count : ℤ) (replaced : Replacement)
         → happened calls ≡ after ++ (judgedAt time bytes (Judged Blocked count replaced) ∷ before)
-        → T ≤ F (cellAddress (oursOf site bytes)) before
+        → least ≤ F (cellAddress (oursOf site bytes)) before

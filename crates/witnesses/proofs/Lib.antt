@@ -1,0 +1,2 @@
+-- That they do.
+pub mod Tight

@@ -1,0 +1,293 @@
+-- The two runs of specs/Tight give what is said there: one machine gets exactly T + D + H + T × R, and then no more; and a machine is blocked
+-- after exactly T. Each call is computed from the state that the one before it left. The states and answers were worked out from document
+-- 01 by a program of its own, apart from all of this.
+-- Assumes nothing.
+use mathlib.Core.Bool.{Bool, true, _&&_}
+use mathlib.Core.List.{List, [], _∷_, map}
+use mathlib.Core.Path.{_≡_, refl, sym, ap, _∙_}
+use Prim.Native.Nat.{ℕ, _+_, _*_, _^_, _<_}
+use native.Mathlib.Omega.{arith}
+use lib.Dec.{ltb}
+use lib.IntN.{ℤ, pos}
+use lib.ListN.{replicate}
+use borrow.Author.Tests.{ltb-true}
+use Rattle.laws.specs.Signed.{minus}
+use Rattle.laws.specs.Search.{every, firstBelow, foremost}
+use Rattle.laws.specs.Times.{times, howMany}
+use Rattle.laws.proofs.Tests.{and-left, and-right}
+use Rattle.settings.specs.Settings.{badSettings}
+use Rattle.permute.specs.Permutation.{boxes, inverses, nibbles, round, rounds, unround, unrounds}
+use Rattle.permute.specs.Permutation as permutation
+use Rattle.places.specs.Places.{slotOf, placeOf, addressOf}
+use Rattle.sides.specs.Lists.{badList, holds, rankAt, rankOf, bestNumber, bestIn, decided}
+use Rattle.packet.specs.Kinds.{tcpKind, kindOf}
+use Rattle.packet.specs.Header.{needed, headerRefusal, transportOf, headerOf}
+use Rattle.records.specs.Records.{minutePassed, agedBy}
+use Rattle.counts.specs.Counts.{isEmpty, larger, smaller, pointLess, decayedBy}
+use Rattle.entries.specs.Entries.{ownWay, countIn, emptyWay, smallestWay, roomFor, countOf, written}
+use Rattle.tables.specs.Sizes.{badSizes}
+use Rattle.tables.specs.Clock.{multiplesPassed, timePassed}
+use Rattle.verdicts.specs.declared.Verdict.{Verdict}
+use Rattle.verdicts.specs.declared.Verdict.the-variants.{CreditOfTwo, FreshContact, Blocked}
+use Rattle.verdicts.specs.Verdicts.{fromThePlant, fromTheCell, fromBlockedCell, verdictOf, recordAfter}
+use Rattle.rulings.specs.declared.answers.Replacement.{Replacement}
+use Rattle.rulings.specs.declared.answers.Replacement.the-variants.{None, Address}
+use Rattle.rulings.specs.declared.answers.Answer.{Answer}
+use Rattle.rulings.specs.declared.answers.Answer.{Answer}
+use Rattle.rulings.specs.declared.answers.Answer.{Answer}
+use Rattle.rulings.specs.declared.answers.Answer.{Answer}
+use Rattle.rulings.specs.declared.answers.Answer.{Answer}
+use Rattle.rulings.specs.declared.answers.Answer.the-variants.{Judged}
+use Rattle.rulings.specs.Rules.{document01}
+use Rattle.rulings.specs.Rulings.{countWritten, rulingOf}
+use Rattle.cold.specs.Cold.{coldTables}
+use Rattle.refusals.specs.Refusals.{startRefusal, earlyRefusal}
+use Rattle.gateway.specs.Packets.{ours, byDirection}
+use Rattle.gateway.specs.Calls.{State, stateOf, After, started, judged}
+use Rattle.history.specs.Runs.{Call, packetAt, Event, judgedAt, stateAfter, eventOf, left, history}
+use Rattle.history.specs.Answered.{fours}
+use Rattle.promises.specs.Demand3.{EachBelow, StartsCold, OfBytes, site, first, happened, F, D, H, R, T}
+use Rattle.promises.proofs.Memory.{memory}
+use Rattle.witnesses.specs.Tight.{gateway, syn, synAckBack, machine, all, exactly}
+
+-- ---- the permutation, once for each word that the runs permute
+abbrev zeros : List ℕ
+zeros = replicate 8 0
+
+-- by what the word is for: the plant address; that with a machine's; that with a port, for a slot; and a machine's address, for its line and tag
+record Words : Type 0 where
+  plant : permutation.E zeros 0xC0A80001 ≡ 0x62724ECF
+  plant-and-1 : permutation.E zeros 0x68724ECE ≡ 0x49433CB9
+  plant-and-2 : permutation.E zeros 0x68724ECD ≡ 0x550DBCB9
+  plant-and-3 : permutation.E zeros 0x68724ECC ≡ 0xCC0DBCBD
+  plant-and-4 : permutation.E zeros 0x68724ECB ≡ 0x300DBCBF
+  plant-and-5 : permutation.E zeros 0x68724ECA ≡ 0x8F0DBCBD
+  slot-1-22 : permutation.E zeros 0x49433CAF ≡ 0xAE806641
+  slot-1-23 : permutation.E zeros 0x49433CAE ≡ 0x74C3A642
+  slot-1-80 : permutation.E zeros 0x49433CE9 ≡ 0x0DB16E70
+  slot-1-443 : permutation.E zeros 0x49433D02 ≡ 0x0B83A2E8
+  slot-1-502 : permutation.E zeros 0x49433D4F ≡ 0x968062EE
+  slot-1-3389 : permutation.E zeros 0x49433184 ≡ 0x66186569
+  slot-2-443 : permutation.E zeros 0x550DBD02 ≡ 0x0DC01B34
+  slot-3-443 : permutation.E zeros 0xCC0DBD06 ≡ 0x44CE0707
+  slot-4-443 : permutation.E zeros 0x300DBD04 ≡ 0x91926F06
+  slot-5-443 : permutation.E zeros 0x8F0DBD06 ≡ 0xA9001B35
+  machine-1 : permutation.E zeros 0x0A000001 ≡ 0xFCE676E6
+  machine-2 : permutation.E zeros 0x0A000002 ≡ 0x732FCEE7
+  machine-3 : permutation.E zeros 0x0A000003 ≡ 0xF90E4EE6
+  machine-4 : permutation.E zeros 0x0A000004 ≡ 0x83294EE6
+  machine-5 : permutation.E zeros 0x0A000005 ≡ 0xC0FE76E7
+
+permuted : Words
+unfolding boxes nibbles round rounds permutation.E
+permuted =
+    record {
+      plant = refl;
+      plant-and-1 = refl;
+      plant-and-2 = refl;
+      plant-and-3 = refl;
+      plant-and-4 = refl;
+      plant-and-5 = refl;
+      slot-1-22 = refl;
+      slot-1-23 = refl;
+      slot-1-80 = refl;
+      slot-1-443 = refl;
+      slot-1-502 = refl;
+      slot-1-3389 = refl;
+      slot-2-443 = refl;
+      slot-3-443 = refl;
+      slot-4-443 = refl;
+      slot-5-443 = refl;
+      machine-1 = refl;
+      machine-2 = refl;
+      machine-3 = refl;
+      machine-4 = refl;
+      machine-5 = refl;
+    }
+
+-- and back, for the two addresses that are replaced
+back : (permutation.D zeros 0xFCE676E6 ≡ 0x0A000001) × (permutation.D zeros 0xC0FE76E7 ≡ 0x0A000005)
+unfolding inverses nibbles unround unrounds permutation.D
+back = (refl, refl)
+
+-- ---- a call, what it is answered, and the state that it leaves
+record Row : Type 0 where
+  time : ℕ
+  bytes : List ℕ
+  verdict : Verdict
+  count : ℤ
+  replaced : Replacement
+  state : State
+
+abbrev row : ℕ → List ℕ → Verdict → ℤ → Replacement → State → Row
+row time bytes verdict count replaced state =
+    record { time = time; bytes = bytes; verdict = verdict; count = count; replaced = replaced; state = state }
+
+-- the state before a row is the one that the row before it left
+abbrev stateBefore : List Row → State
+stateBefore [] = stateOf (replicate 16 0) (replicate 4 0) (replicate 4 (minus 32768)) 100
+stateBefore (row ∷ rows) = row .state
+
+-- what the gateway makes of each, and what is said of it
+abbrev made : List Row → List (After Answer)
+made [] = []
+made (row ∷ rows) =
+    judged document01 (gateway .settings) (gateway .cell) (gateway .plant) (row .time) (row .bytes) (stateBefore rows) ∷ made rows
+
+abbrev said : List Row → List (After Answer)
+said [] = []
+said (row ∷ rows) = record { answer = Judged (row .verdict) (row .count) (row .replaced); state = row .state } ∷ said rows
+
+abbrev callsOf : List Row → List Call
+callsOf rows = map (λ row. packetAt (row .time) (row .bytes)) rows
+
+abbrev eventsOf : List Row → List Event
+eventsOf rows = map (λ row. judgedAt (row .time) (row .bytes) (Judged (row .verdict) (row .count) (row .replaced))) rows
+
+-- ---- the runs, newest first
+abbrev allRows : List Row
+allRows =
+    row 120 (syn 1 3389) Blocked (pos 1) None (stateOf (65 ∷ 64 ∷ 64 ∷ 0 ∷ 64 ∷ 64 ∷ 64 ∷ 64 ∷ 193 ∷ 0 ∷ 0 ∷ 0 ∷ 0 ∷ 0 ∷ 65 ∷ 0 ∷ []) (0xFCE676E6 ∷ 0x732FCEE7 ∷ 0xF90E4EE6 ∷ 0x83294EE6 ∷ []) (pos 1 ∷ pos 1 ∷ pos 1 ∷ pos 1 ∷ []) 120) ∷
+    row 120 (syn 1 23) FreshContact (pos 1) (Address 0x0A000005) (stateOf (65 ∷ 64 ∷ 64 ∷ 0 ∷ 64 ∷ 64 ∷ 64 ∷ 64 ∷ 193 ∷ 0 ∷ 0 ∷ 0 ∷ 0 ∷ 0 ∷ 65 ∷ 0 ∷ []) (0xFCE676E6 ∷ 0x732FCEE7 ∷ 0xF90E4EE6 ∷ 0x83294EE6 ∷ []) (pos 1 ∷ pos 1 ∷ pos 1 ∷ pos 1 ∷ []) 120) ∷
+    row 120 (syn 5 443) FreshContact (pos 1) (Address 0x0A000001) (stateOf (65 ∷ 64 ∷ 0 ∷ 0 ∷ 64 ∷ 64 ∷ 64 ∷ 64 ∷ 193 ∷ 0 ∷ 0 ∷ 0 ∷ 0 ∷ 0 ∷ 65 ∷ 0 ∷ []) (0xC0FE76E7 ∷ 0x732FCEE7 ∷ 0xF90E4EE6 ∷ 0x83294EE6 ∷ []) (pos 1 ∷ pos 1 ∷ pos 1 ∷ pos 1 ∷ []) 120) ∷
+    row 120 (syn 4 443) FreshContact (pos 1) None (stateOf (65 ∷ 64 ∷ 0 ∷ 0 ∷ 64 ∷ 0 ∷ 64 ∷ 64 ∷ 193 ∷ 0 ∷ 0 ∷ 0 ∷ 0 ∷ 0 ∷ 65 ∷ 0 ∷ []) (0xFCE676E6 ∷ 0x732FCEE7 ∷ 0xF90E4EE6 ∷ 0x83294EE6 ∷ []) (pos 1 ∷ pos 1 ∷ pos 1 ∷ pos 1 ∷ []) 120) ∷
+    row 120 (syn 3 443) FreshContact (pos 1) None (stateOf (65 ∷ 64 ∷ 0 ∷ 0 ∷ 64 ∷ 0 ∷ 0 ∷ 64 ∷ 193 ∷ 0 ∷ 0 ∷ 0 ∷ 0 ∷ 0 ∷ 65 ∷ 0 ∷ []) (0xFCE676E6 ∷ 0x732FCEE7 ∷ 0xF90E4EE6 ∷ 0 ∷ []) (pos 1 ∷ pos 1 ∷ pos 1 ∷ minus 32768 ∷ []) 120) ∷
+    row 120 (syn 2 443) FreshContact (pos 1) None (stateOf (65 ∷ 64 ∷ 0 ∷ 0 ∷ 64 ∷ 0 ∷ 0 ∷ 0 ∷ 193 ∷ 0 ∷ 0 ∷ 0 ∷ 0 ∷ 0 ∷ 65 ∷ 0 ∷ []) (0xFCE676E6 ∷ 0x732FCEE7 ∷ 0 ∷ 0 ∷ []) (pos 1 ∷ pos 1 ∷ minus 32768 ∷ minus 32768 ∷ []) 120) ∷
+    row 120 (syn 1 22) FreshContact (pos 1) None (stateOf (65 ∷ 64 ∷ 0 ∷ 0 ∷ 0 ∷ 0 ∷ 0 ∷ 0 ∷ 193 ∷ 0 ∷ 0 ∷ 0 ∷ 0 ∷ 0 ∷ 65 ∷ 0 ∷ []) (0xFCE676E6 ∷ 0 ∷ 0 ∷ 0 ∷ []) (pos 1 ∷ minus 32768 ∷ minus 32768 ∷ minus 32768 ∷ []) 120) ∷
+    row 100 (syn 1 22) Blocked (pos 1) None (stateOf (64 ∷ 0 ∷ 0 ∷ 0 ∷ 0 ∷ 0 ∷ 0 ∷ 0 ∷ 192 ∷ 0 ∷ 0 ∷ 0 ∷ 0 ∷ 0 ∷ 64 ∷ 0 ∷ []) (0xFCE676E6 ∷ 0 ∷ 0 ∷ 0 ∷ []) (pos 1 ∷ minus 32768 ∷ minus 32768 ∷ minus 32768 ∷ []) 100) ∷
+    row 100 (syn 1 502) FreshContact (pos 1) None (stateOf (64 ∷ 0 ∷ 0 ∷ 0 ∷ 0 ∷ 0 ∷ 0 ∷ 0 ∷ 192 ∷ 0 ∷ 0 ∷ 0 ∷ 0 ∷ 0 ∷ 64 ∷ 0 ∷ []) (0xFCE676E6 ∷ 0 ∷ 0 ∷ 0 ∷ []) (pos 1 ∷ minus 32768 ∷ minus 32768 ∷ minus 32768 ∷ []) 100) ∷
+    row 100 (syn 1 80) FreshContact (pos 0) None (stateOf (64 ∷ 0 ∷ 0 ∷ 0 ∷ 0 ∷ 0 ∷ 0 ∷ 0 ∷ 192 ∷ 0 ∷ 0 ∷ 0 ∷ 0 ∷ 0 ∷ 0 ∷ 0 ∷ []) (0xFCE676E6 ∷ 0 ∷ 0 ∷ 0 ∷ []) (pos 0 ∷ minus 32768 ∷ minus 32768 ∷ minus 32768 ∷ []) 100) ∷
+    row 100 (synAckBack 1 443) CreditOfTwo (minus 1) None (stateOf (0 ∷ 0 ∷ 0 ∷ 0 ∷ 0 ∷ 0 ∷ 0 ∷ 0 ∷ 192 ∷ 0 ∷ 0 ∷ 0 ∷ 0 ∷ 0 ∷ 0 ∷ 0 ∷ []) (0xFCE676E6 ∷ 0 ∷ 0 ∷ 0 ∷ []) (minus 1 ∷ minus 32768 ∷ minus 32768 ∷ minus 32768 ∷ []) 100) ∷
+    row 100 (syn 1 443) FreshContact (pos 1) None (stateOf (0 ∷ 0 ∷ 0 ∷ 0 ∷ 0 ∷ 0 ∷ 0 ∷ 0 ∷ 64 ∷ 0 ∷ 0 ∷ 0 ∷ 0 ∷ 0 ∷ 0 ∷ 0 ∷ []) (0xFCE676E6 ∷ 0 ∷ 0 ∷ 0 ∷ []) (pos 1 ∷ minus 32768 ∷ minus 32768 ∷ minus 32768 ∷ []) 100) ∷ []
+
+abbrev exactlyRows : List Row
+exactlyRows =
+    row 100 (syn 1 80) Blocked (pos 1) None (stateOf (0 ∷ 0 ∷ 0 ∷ 0 ∷ 0 ∷ 0 ∷ 0 ∷ 0 ∷ 64 ∷ 0 ∷ 0 ∷ 0 ∷ 0 ∷ 0 ∷ 0 ∷ 0 ∷ []) (0xFCE676E6 ∷ 0 ∷ 0 ∷ 0 ∷ []) (pos 1 ∷ minus 32768 ∷ minus 32768 ∷ minus 32768 ∷ []) 100) ∷
+    row 100 (syn 1 443) FreshContact (pos 1) None (stateOf (0 ∷ 0 ∷ 0 ∷ 0 ∷ 0 ∷ 0 ∷ 0 ∷ 0 ∷ 64 ∷ 0 ∷ 0 ∷ 0 ∷ 0 ∷ 0 ∷ 0 ∷ 0 ∷ []) (0xFCE676E6 ∷ 0 ∷ 0 ∷ 0 ∷ []) (pos 1 ∷ minus 32768 ∷ minus 32768 ∷ minus 32768 ∷ []) 100) ∷ []
+
+and-then : {x y : After Answer} {xs ys : List (After Answer)} → x ≡ y → xs ≡ ys → x ∷ xs ≡ y ∷ ys
+and-then p q = λ i. p i ∷ q i
+
+all-made : made allRows ≡ said allRows
+unfolding times howMany every firstBelow foremost badSettings slotOf placeOf addressOf badList holds rankAt rankOf bestNumber bestIn decided tcpKind kindOf needed headerRefusal transportOf headerOf minutePassed agedBy isEmpty larger smaller pointLess decayedBy ownWay countIn emptyWay smallestWay roomFor countOf written badSizes multiplesPassed timePassed fromThePlant fromTheCell fromBlockedCell verdictOf recordAfter countWritten rulingOf earlyRefusal ours byDirection judged
+all-made =
+    and-then (simp (permuted .plant, permuted .plant-and-1, permuted .slot-1-3389, permuted .machine-1))
+    (and-then (simp (permuted .plant, permuted .plant-and-1, permuted .slot-1-23, permuted .machine-1, back .1))
+    (and-then (simp (permuted .plant, permuted .plant-and-5, permuted .slot-5-443, permuted .machine-5, back .0))
+    (and-then (simp (permuted .plant, permuted .plant-and-4, permuted .slot-4-443, permuted .machine-4))
+    (and-then (simp (permuted .plant, permuted .plant-and-3, permuted .slot-3-443, permuted .machine-3))
+    (and-then (simp (permuted .plant, permuted .plant-and-2, permuted .slot-2-443, permuted .machine-2))
+    (and-then (simp (permuted .plant, permuted .plant-and-1, permuted .slot-1-22, permuted .machine-1))
+    (and-then (simp (permuted .plant, permuted .plant-and-1, permuted .slot-1-22, permuted .machine-1))
+    (and-then (simp (permuted .plant, permuted .plant-and-1, permuted .slot-1-502, permuted .machine-1))
+    (and-then (simp (permuted .plant, permuted .plant-and-1, permuted .slot-1-80, permuted .machine-1))
+    (and-then (simp (permuted .plant, permuted .plant-and-1, permuted .slot-1-443, permuted .machine-1))
+    (and-then (simp (permuted .plant, permuted .plant-and-1, permuted .slot-1-443, permuted .machine-1)) refl)))))))))))
+
+exactly-made : made exactlyRows ≡ said exactlyRows
+unfolding times howMany every firstBelow foremost badSettings slotOf placeOf addressOf badList holds rankAt rankOf bestNumber bestIn decided tcpKind kindOf needed headerRefusal transportOf headerOf minutePassed agedBy isEmpty larger smaller pointLess decayedBy ownWay countIn emptyWay smallestWay roomFor countOf written badSizes multiplesPassed timePassed fromThePlant fromTheCell fromBlockedCell verdictOf recordAfter countWritten rulingOf earlyRefusal ours byDirection judged
+exactly-made =
+    and-then (simp (permuted .plant, permuted .plant-and-1, permuted .slot-1-80, permuted .machine-1))
+    (and-then (simp (permuted .plant, permuted .plant-and-1, permuted .slot-1-443, permuted .machine-1)) refl)
+
+-- ---- so the runs are these
+same-head : {x y : After Answer} {xs ys : List (After Answer)} → x ∷ xs ≡ y ∷ ys → x ≡ y
+same-head e = cc
+
+same-tail : {x y : After Answer} {xs ys : List (After Answer)} → x ∷ xs ≡ y ∷ ys → xs ≡ ys
+same-tail e = cc
+
+abbrev cold : State
+cold = stateBefore []
+
+left-is : (rows : List Row) → made rows ≡ said rows → left document01 (site gateway) cold (callsOf rows) ≡ stateBefore rows
+unfolding left stateAfter
+left-is [] e = refl
+left-is (row ∷ rows) e =
+    ap (λ (s : State). judged document01 (gateway .settings) (gateway .cell) (gateway .plant) (row .time) (row .bytes) s .state) (left-is rows (same-tail e))
+    ∙ ap (λ (after : After Answer). after .state) (same-head e)
+
+history-is : (rows : List Row) → made rows ≡ said rows → history document01 (site gateway) cold (callsOf rows) ≡ eventsOf rows
+unfolding left history eventOf
+history-is [] e = refl
+history-is (row ∷ rows) e =
+    λ i. judgedAt (row .time) (row .bytes) (answer i) ∷ history-is rows (same-tail e) i
+  where
+    answer : judged document01 (gateway .settings) (gateway .cell) (gateway .plant) (row .time) (row .bytes) (left document01 (site gateway) cold (callsOf rows)) .answer
+        ≡ Judged (row .verdict) (row .count) (row .replaced)
+    answer =
+        ap (λ (s : State). judged document01 (gateway .settings) (gateway .cell) (gateway .plant) (row .time) (row .bytes) s .answer) (left-is rows (same-tail e))
+        ∙ ap (λ (after : After Answer). after .answer) (same-head e)
+
+cold-is : first gateway ≡ cold
+unfolding started startRefusal badSettings badSizes coldTables
+cold-is = refl
+
+happened-is : (rows : List Row) → made rows ≡ said rows → happened gateway (callsOf rows) ≡ eventsOf rows
+happened-is rows e = ap (λ (s : State). history document01 (site gateway) s (callsOf rows)) cold-is ∙ history-is rows e
+
+-- ---- the premises of demand 3 are met
+abbrev allBelow : ℕ → List ℕ → Bool
+allBelow limit [] = true
+allBelow limit (x ∷ xs) = ltb x limit && allBelow limit xs
+
+each-below : (limit : ℕ) (xs : List ℕ) → allBelow limit xs ≡ true → EachBelow limit xs
+each-below limit [] e = tt
+each-below limit (x ∷ xs) e = (ltb-true x limit (and-left (ltb x limit) (allBelow limit xs) e), each-below limit xs (and-right (ltb x limit) (allBelow limit xs) e))
+
+abbrev bytesOf : List Row → Bool
+bytesOf [] = true
+bytesOf (row ∷ rows) = allBelow 256 (row .bytes) && bytesOf rows
+
+of-bytes : (rows : List Row) → bytesOf rows ≡ true → OfBytes (callsOf rows)
+of-bytes [] e = tt
+of-bytes (row ∷ rows) e =
+    (each-below 256 (row .bytes) (and-left (allBelow 256 (row .bytes)) (bytesOf rows) e), of-bytes rows (and-right (allBelow 256 (row .bytes)) (bytesOf rows) e))
+
+pub starts : StartsCold gateway
+unfolding startRefusal badSettings badSizes
+starts = record { not-refused = refl; keys-are-words = each-below (2 ^ 32) (gateway .settings .keys) refl }
+
+-- fresh contacts, from the history, by what was answered
+fresh-is : (rows : List Row) → made rows ≡ said rows → bytesOf rows ≡ true → F gateway machine (happened gateway (callsOf rows)) ≡ fours document01 (site gateway) machine (eventsOf rows)
+fresh-is rows e b =
+    memory gateway starts (callsOf rows) (of-bytes rows b) .answered-as-fresh machine ∙ ap (fours document01 (site gateway) machine) (happened-is rows e)
+
+-- ---- all that is allowed: five, by T 1, D 1, H 2 and R 1
+five : F gateway machine (happened gateway all) ≡ 5
+unfolding every firstBelow foremost holds rankAt rankOf bestNumber bestIn decided headerOf
+five = fresh-is allRows all-made refl
+
+each-counts : (D gateway (happened gateway all) ≡ 1) × (H gateway machine (happened gateway all) ≡ 2) × (R gateway machine (happened gateway all) ≡ 1)
+unfolding howMany multiplesPassed every firstBelow foremost holds rankAt rankOf bestNumber bestIn decided headerOf
+each-counts =
+    let h = happened-is allRows all-made in
+    (ap (D gateway) h, ap (H gateway machine) h, ap (R gateway machine) h)
+
+-- the bound is reached, with every term of it above 0: none of them could go
+pub reached : F gateway machine (happened gateway all)
+    ≡ T gateway + D gateway (happened gateway all) + H gateway machine (happened gateway all) + T gateway * R gateway machine (happened gateway all)
+reached = omega (arith, five, each-counts)
+
+pub every-term : (0 < D gateway (happened gateway all)) × (0 < H gateway machine (happened gateway all)) × (0 < R gateway machine (happened gateway all))
+every-term = (omega (arith, each-counts), omega (arith, each-counts), omega (arith, each-counts))
+
+-- and then it gets not one more
+pub no-more : (before : List Event) × (happened gateway all ≡ judgedAt 120 (syn 1 3389) (Judged Blocked (pos 1) None) ∷ before)
+no-more = (_, happened-is allRows all-made)
+
+-- ---- blocked after exactly T
+pub blocked-after-T : (before : List Event)
+    × (happened gateway exactly ≡ judgedAt 100 (syn 1 80) (Judged Blocked (pos 1) None) ∷ before)
+    × (F gateway machine before ≡ T gateway)
+unfolding history every firstBelow foremost holds rankAt rankOf bestNumber bestIn decided headerOf
+blocked-after-T =
+    (happened gateway (callsOf oneRow), happened-exactly, fresh-is oneRow (same-tail exactly-made) refl)
+  where
+    oneRow : List Row
+    oneRow = row 100 (syn 1 443) FreshContact (pos 1) None (stateOf (0 ∷ 0 ∷ 0 ∷ 0 ∷ 0 ∷ 0 ∷ 0 ∷ 0 ∷ 64 ∷ 0 ∷ 0 ∷ 0 ∷ 0 ∷ 0 ∷ 0 ∷ 0 ∷ []) (0xFCE676E6 ∷ 0 ∷ 0 ∷ 0 ∷ []) (pos 1 ∷ minus 32768 ∷ minus 32768 ∷ minus 32768 ∷ []) 100) ∷ []
+
+    happened-exactly : happened gateway exactly ≡ judgedAt 100 (syn 1 80) (Judged Blocked (pos 1) None) ∷ happened gateway (callsOf oneRow)
+    happened-exactly =
+        happened-is exactlyRows exactly-made
+        ∙ ap (λ (h : List Event). judgedAt 100 (syn 1 80) (Judged Blocked (pos 1) None) ∷ h) (sym (happened-is oneRow (same-tail exactly-made)))

@@ -1,0 +1,2 @@
+-- Runs that reach what demand 3 allows.
+pub mod Tight

@@ -1,0 +1,59 @@
+-- Two runs of one small gateway: T is 1, 16 records, one line of four entries, keys all zero. In the first a machine gets all that demand 3
+-- allows, with each of D, H and R above 0, and not one more; in the second it is blocked after exactly T.
+-- Assumes nothing.
+use mathlib.Core.List.{List, [], _∷_}
+use Prim.Native.Nat.{ℕ, _/_, _%_}
+use lib.IntN.{pos}
+use lib.ListN.{replicate}
+use Rattle.laws.specs.Signed.{minus}
+use Rattle.gateway.specs.Calls.{stateOf}
+use Rattle.history.specs.Runs.{Call, packetAt}
+use Rattle.promises.specs.Demand3.{Gateway}
+
+-- cell 10.0.0.0/8, plant 192.168.0.0/16, and a cold start at second 100
+abbrev pub gateway : Gateway
+gateway =
+    record {
+      settings = record { threshold = 1; floor = minus 20; dmiss = 60; dconn = 10; keys = replicate 8 0 };
+      cell = 10 ∷ 0 ∷ 0 ∷ 0 ∷ 8 ∷ [];
+      plant = 192 ∷ 168 ∷ 0 ∷ 0 ∷ 16 ∷ [];
+      lent = stateOf (replicate 16 0) (replicate 4 0) (replicate 4 (pos 0)) 0;
+      start = 100;
+    }
+
+-- a TCP packet between 10.0.0.machine, port 40000, and a port of 192.168.0.1: a SYN to the plant, and its SYN+ACK back
+abbrev pub syn : ℕ → ℕ → List ℕ
+syn machine port =
+    0x45 ∷ 0 ∷ 0 ∷ 40 ∷ 0 ∷ 0 ∷ 0 ∷ 0 ∷ 64 ∷ 6 ∷ 0 ∷ 0 ∷ 10 ∷ 0 ∷ 0 ∷ machine ∷ 192 ∷ 168 ∷ 0 ∷ 1 ∷
+    0x9C ∷ 0x40 ∷ port / 256 ∷ port % 256 ∷ 0 ∷ 0 ∷ 0 ∷ 0 ∷ 0 ∷ 0 ∷ 0 ∷ 0 ∷ 0x50 ∷ 2 ∷ 0 ∷ 0 ∷ 0 ∷ 0 ∷ 0 ∷ 0 ∷ []
+
+abbrev pub synAckBack : ℕ → ℕ → List ℕ
+synAckBack machine port =
+    0x45 ∷ 0 ∷ 0 ∷ 40 ∷ 0 ∷ 0 ∷ 0 ∷ 0 ∷ 64 ∷ 6 ∷ 0 ∷ 0 ∷ 192 ∷ 168 ∷ 0 ∷ 1 ∷ 10 ∷ 0 ∷ 0 ∷ machine ∷
+    port / 256 ∷ port % 256 ∷ 0x9C ∷ 0x40 ∷ 0 ∷ 0 ∷ 0 ∷ 0 ∷ 0 ∷ 0 ∷ 0 ∷ 0 ∷ 0x50 ∷ 18 ∷ 0 ∷ 0 ∷ 0 ∷ 0 ∷ 0 ∷ 0 ∷ []
+
+-- the machine of which demand 3 is asked
+abbrev pub machine : ℕ
+machine = 0x0A000001
+
+-- ---- all that is allowed (newest first, the verdicts beside)
+abbrev pub all : List Call
+all =
+    packetAt 120 (syn 1 3389) ∷  -- 6: it has had all
+    packetAt 120 (syn 1 23) ∷  -- 4: its count is forgotten (R)
+    packetAt 120 (syn 5 443) ∷  -- 4, and its entry is replaced
+    packetAt 120 (syn 4 443) ∷  -- 4
+    packetAt 120 (syn 3 443) ∷  -- 4
+    packetAt 120 (syn 2 443) ∷  -- 4
+    packetAt 120 (syn 1 22) ∷  -- 4: a multiple of Dmiss was passed (D)
+    packetAt 100 (syn 1 22) ∷  -- 6
+    packetAt 100 (syn 1 502) ∷  -- 4: and the second
+    packetAt 100 (syn 1 80) ∷  -- 4: the first that its credit of two allows (H)
+    packetAt 100 (synAckBack 1 443) ∷  -- 3: an answer earns two
+    packetAt 100 (syn 1 443) ∷ []  -- 4: the first stranger (T)
+
+-- ---- blocked after exactly T
+abbrev pub exactly : List Call
+exactly =
+    packetAt 100 (syn 1 80) ∷  -- 6
+    packetAt 100 (syn 1 443) ∷ []  -- 4
