@@ -1,0 +1,2 @@
+-- One outcome for each contract.
+pub mod Outcomes

@@ -1,0 +1,264 @@
+-- For every public function: two outcomes that its contract allows are equal. An outcome is what is returned and all that is left in lent
+-- memory; `Learnt` is what a contract tells its caller. tools/one-outcome writes this file from the sources, so that no function is left out.
+-- Assumes nothing.
+use Rattle.capture.proofs.next.Reads as capture-next
+use Rattle.capture.proofs.open.Reads as capture-open
+use Rattle.cold.proofs.fill.Reads as cold-fill
+use Rattle.counts.proofs.decay_all.Reads as counts-decay-all
+use Rattle.counts.proofs.decayed.Reads as counts-decayed
+use Rattle.counts.proofs.is_blocked.Reads as counts-is-blocked
+use Rattle.counts.proofs.is_empty.Reads as counts-is-empty
+use Rattle.counts.proofs.lowered.Reads as counts-lowered
+use Rattle.counts.proofs.raised.Reads as counts-raised
+use Rattle.endings.proofs.one_more.Reads as endings-one-more
+use Rattle.endings.proofs.put_ending.Reads as endings-put-ending
+use Rattle.endings.proofs.put_refused_header.Reads as endings-put-refused-header
+use Rattle.entries.proofs.count_of.Reads as entries-count-of
+use Rattle.entries.proofs.write.Reads as entries-write
+use Rattle.entries.specs.Entries.{writtenOf}
+use Rattle.frames.proofs.judge.Reads as frames-judge
+use Rattle.gateway.proofs.cold_start.Reads as gateway-cold-start
+use Rattle.gateway.proofs.judge.Reads as gateway-judge
+use Rattle.gateway.proofs.pass.Reads as gateway-pass
+use Rattle.gateway.specs.Calls.{afterOf}
+use Rattle.gateway.specs.Calls.{stateOf}
+use Rattle.lines.proofs.put_last_line.Reads as lines-put-last-line
+use Rattle.lines.proofs.put_line.Reads as lines-put-line
+use Rattle.lines.specs.Room.{roomOf}
+use Rattle.packet.proofs.Header.port.Reads as packet-header-port
+use Rattle.packet.proofs.kinds.of_flags.Reads as packet-kinds-of-flags
+use Rattle.packet.proofs.read.Reads as packet-read
+use Rattle.permute.proofs.decrypt.Reads as permute-decrypt
+use Rattle.permute.proofs.encrypt.Reads as permute-encrypt
+use Rattle.places.proofs.address_of.Reads as places-address-of
+use Rattle.places.proofs.place_of.Reads as places-place-of
+use Rattle.places.proofs.slot.Reads as places-slot
+use Rattle.printing.proofs.feed.Reads as printing-feed
+use Rattle.printing.specs.Printing.{printedOf}
+use Rattle.records.proofs.age_all.Reads as records-age-all
+use Rattle.records.proofs.aged.Reads as records-aged
+use Rattle.records.proofs.marks_of.Reads as records-marks-of
+use Rattle.records.proofs.renewed.Reads as records-renewed
+use Rattle.refusals.proofs.of_packet.Reads as refusals-of-packet
+use Rattle.refusals.proofs.of_start.Reads as refusals-of-start
+use Rattle.refusals.proofs.of_time.Reads as refusals-of-time
+use Rattle.replay.proofs.next.Reads as replay-next
+use Rattle.rulings.proofs.ruling_of.Reads as rulings-ruling-of
+use Rattle.settings.proofs.Settings.factory.Reads as settings-settings-factory
+use Rattle.settings.proofs.Settings.is_bad.Reads as settings-settings-is-bad
+use Rattle.sides.proofs.bad_list.Reads as sides-bad-list
+use Rattle.sides.proofs.best_in.Reads as sides-best-in
+use Rattle.sides.proofs.direction_of.Reads as sides-direction-of
+use Rattle.sides.proofs.side_of.Reads as sides-side-of
+use Rattle.sides.proofs.winner.Reads as sides-winner
+use Rattle.streams.proofs.shift.Reads as streams-shift
+use Rattle.streams.proofs.within.Reads as streams-within
+use Rattle.streams.specs.Streams.{heldOf}
+use Rattle.tables.proofs.clock.multiples_passed.Reads as tables-clock-multiples-passed
+use Rattle.tables.proofs.clock.pass.Reads as tables-clock-pass
+use Rattle.tables.proofs.sizes.bad_sizes.Reads as tables-sizes-bad-sizes
+use Rattle.tables.specs.Clock.{timedOf}
+use Rattle.tables.specs.Tables.{tablesOf}
+use Rattle.tally.proofs.Tally.empty.Reads as tally-tally-empty
+use Rattle.tally.proofs.Tally.with.Reads as tally-tally-with
+use Rattle.verdicts.proofs.number.Reads as verdicts-number
+use Rattle.verdicts.proofs.record_after.Reads as verdicts-record-after
+use Rattle.verdicts.proofs.verdict_of.Reads as verdicts-verdict-of
+use Rattle.words.proofs.four_at.Reads as words-four-at
+use Rattle.words.proofs.four_in.Reads as words-four-in
+use Rattle.words.proofs.two_at.Reads as words-two-at
+use Rattle.words.proofs.two_in.Reads as words-two-in
+use denote.Ref.{now}
+use mathlib.Core.Path.{_≡_, sym, _∙_}
+
+-- what is allowed determines the outcome
+abbrev One {ℓ m} : {X : Type ℓ} {S : Type m} {O : Type 0} → (X → S → Type 0) → (X → S → O) → Type (ℓ ⊔ m)
+One {X = X} {S = S} allowed outcome = (x y : X) (s t : S) → allowed x s → allowed y t → outcome x s ≡ outcome y t
+
+-- the one lemma: a contract is an equation of its outcome with a definition's value at the entry
+same : {O : Type 0} {x y d : O} → x ≡ d → y ≡ d → x ≡ y
+same p q = p ∙ sym q
+
+pub words-two-in-one : (κs : _) (a : _) → One (words-two-in.Learnt κs a) (λ x s. x)
+words-two-in-one κs a x y s t p q = same p q
+
+pub words-four-in-one : (κs : _) (a : _) → One (words-four-in.Learnt κs a) (λ x s. x)
+words-four-in-one κs a x y s t p q = same p q
+
+pub words-two-at-one : (κs : _) (a : _) → One (words-two-at.Learnt κs a) (λ x s. x)
+words-two-at-one κs a x y s t p q = same p q
+
+pub words-four-at-one : (κs : _) (a : _) → One (words-four-at.Learnt κs a) (λ x s. x)
+words-four-at-one κs a x y s t p q = same p q
+
+pub settings-settings-factory-one : (κs : _) (a : _) → One (settings-settings-factory.Learnt κs a) (λ x s. x)
+settings-settings-factory-one κs a x y s t p q = same (p .0) (q .0)
+
+pub settings-settings-is-bad-one : (κs : _) (a : _) → One (settings-settings-is-bad.Learnt κs a) (λ x s. x)
+settings-settings-is-bad-one κs a x y s t p q = same p q
+
+pub permute-encrypt-one : (κs : _) (a : _) → One (permute-encrypt.Learnt κs a) (λ x s. x)
+permute-encrypt-one κs a x y s t p q = same p q
+
+pub permute-decrypt-one : (κs : _) (a : _) → One (permute-decrypt.Learnt κs a) (λ x s. x)
+permute-decrypt-one κs a x y s t p q = same p q
+
+pub places-slot-one : (κs : _) (a : _) → One (places-slot.Learnt κs a) (λ x s. x)
+places-slot-one κs a x y s t p q = same p q
+
+pub places-place-of-one : (κs : _) (a : _) → One (places-place-of.Learnt κs a) (λ x s. x)
+places-place-of-one κs a x y s t p q = same p q
+
+pub places-address-of-one : (κs : _) (a : _) → One (places-address-of.Learnt κs a) (λ x s. x)
+places-address-of-one κs a x y s t p q = same p q
+
+pub sides-bad-list-one : (κs : _) (a : _) → One (sides-bad-list.Learnt κs a) (λ x s. x)
+sides-bad-list-one κs a x y s t p q = same p q
+
+pub sides-best-in-one : (κs : _) (a : _) → One (sides-best-in.Learnt κs a) (λ x s. x)
+sides-best-in-one κs a x y s t p q = same p q
+
+pub sides-winner-one-part : (κs : _) (a : _) → One (sides-winner.Learnt κs a) (λ x s. now x)
+sides-winner-one-part κs a x y s t p q = same (p .0) (q .0)
+
+pub sides-winner-one-place : (κs : _) (a : _) → One (sides-winner.Learnt κs a) (λ x s. x .ptr)
+sides-winner-one-place κs a x y s t p q = same (p .1) (q .1)
+
+pub sides-side-of-one : (κs : _) (a : _) → One (sides-side-of.Learnt κs a) (λ x s. x)
+sides-side-of-one κs a x y s t p q = same p q
+
+pub sides-direction-of-one : (κs : _) (a : _) → One (sides-direction-of.Learnt κs a) (λ x s. x)
+sides-direction-of-one κs a x y s t p q = same p q
+
+pub packet-kinds-of-flags-one : (κs : _) (a : _) → One (packet-kinds-of-flags.Learnt κs a) (λ x s. x)
+packet-kinds-of-flags-one κs a x y s t p q = same p q
+
+pub packet-read-one : (κs : _) (a : _) → One (packet-read.Learnt κs a) (λ x s. x)
+packet-read-one κs a x y s t p q = same p q
+
+pub packet-header-port-one : (κs : _) (a : _) → One (packet-header-port.Learnt κs a) (λ x s. x)
+packet-header-port-one κs a x y s t p q = same p q
+
+pub capture-open-one : (κs : _) (a : _) → One (capture-open.Learnt κs a) (λ x s. x)
+capture-open-one κs a x y s t p q = same p q
+
+pub capture-next-one : (κs : _) (a : _) → One (capture-next.Learnt κs a) (λ x s. x)
+capture-next-one κs a x y s t p q = same p q
+
+pub records-marks-of-one : (κs : _) (a : _) → One (records-marks-of.Learnt κs a) (λ x s. x)
+records-marks-of-one κs a x y s t p q = same p q
+
+pub records-renewed-one : (κs : _) (a : _) → One (records-renewed.Learnt κs a) (λ x s. x)
+records-renewed-one κs a x y s t p q = same p q
+
+pub records-aged-one : (κs : _) (a : _) → One (records-aged.Learnt κs a) (λ x s. x)
+records-aged-one κs a x y s t p q = same p q
+
+pub records-age-all-one : (κs : _) (a : _) → One (records-age-all.Learnt κs a) (λ x s. now (s .0))
+records-age-all-one κs a x y s t p q = same p q
+
+pub counts-is-empty-one : (κs : _) (a : _) → One (counts-is-empty.Learnt κs a) (λ x s. x)
+counts-is-empty-one κs a x y s t p q = same p q
+
+pub counts-is-blocked-one : (κs : _) (a : _) → One (counts-is-blocked.Learnt κs a) (λ x s. x)
+counts-is-blocked-one κs a x y s t p q = same p q
+
+pub counts-lowered-one : (κs : _) (a : _) → One (counts-lowered.Learnt κs a) (λ x s. x)
+counts-lowered-one κs a x y s t p q = same p q
+
+pub counts-raised-one : (κs : _) (a : _) → One (counts-raised.Learnt κs a) (λ x s. x)
+counts-raised-one κs a x y s t p q = same p q
+
+pub counts-decayed-one : (κs : _) (a : _) → One (counts-decayed.Learnt κs a) (λ x s. x)
+counts-decayed-one κs a x y s t p q = same p q
+
+pub counts-decay-all-one : (κs : _) (a : _) → One (counts-decay-all.Learnt κs a) (λ x s. now (s .0))
+counts-decay-all-one κs a x y s t p q = same p q
+
+pub entries-count-of-one : (κs : _) (a : _) → One (entries-count-of.Learnt κs a) (λ x s. x)
+entries-count-of-one κs a x y s t p q = same p q
+
+pub entries-write-one : (κs : _) (a : _) → One (entries-write.Learnt κs a) (λ x s. writtenOf x (now (s .0)) (now (s .1 .0)))
+entries-write-one κs a x y s t p q = same p q
+
+pub tables-clock-multiples-passed-one : (κs : _) (a : _) → One (tables-clock-multiples-passed.Learnt κs a) (λ x s. x)
+tables-clock-multiples-passed-one κs a x y s t p q = same p q
+
+pub tables-clock-pass-one : (κs : _) (a : _) → One (tables-clock-pass.Learnt κs a) (λ x s. timedOf (now (s .0)) (now (s .1 .0)) (now (s .1 .1 .0)))
+tables-clock-pass-one κs a x y s t p q = same p q
+
+pub tables-sizes-bad-sizes-one : (κs : _) (a : _) → One (tables-sizes-bad-sizes.Learnt κs a) (λ x s. x)
+tables-sizes-bad-sizes-one κs a x y s t p q = same p q
+
+pub verdicts-number-one : (κs : _) (a : _) → One (verdicts-number.Learnt κs a) (λ x s. x)
+verdicts-number-one κs a x y s t p q = same p q
+
+pub verdicts-verdict-of-one : (κs : _) (a : _) → One (verdicts-verdict-of.Learnt κs a) (λ x s. x)
+verdicts-verdict-of-one κs a x y s t p q = same p q
+
+pub verdicts-record-after-one : (κs : _) (a : _) → One (verdicts-record-after.Learnt κs a) (λ x s. x)
+verdicts-record-after-one κs a x y s t p q = same p q
+
+pub rulings-ruling-of-one : (κs : _) (a : _) → One (rulings-ruling-of.Learnt κs a) (λ x s. x)
+rulings-ruling-of-one κs a x y s t p q = same p q
+
+pub lines-put-line-one : (κs : _) (a : _) → One (lines-put-line.Learnt κs a) (λ x s. roomOf x (now (s .0)))
+lines-put-line-one κs a x y s t p q = same p q
+
+pub lines-put-last-line-one : (κs : _) (a : _) → One (lines-put-last-line.Learnt κs a) (λ x s. roomOf x (now (s .0)))
+lines-put-last-line-one κs a x y s t p q = same p q
+
+pub cold-fill-one : (κs : _) (a : _) → One (cold-fill.Learnt κs a) (λ x s. tablesOf (now (s .0)) (now (s .1 .0)) (now (s .1 .1 .0)))
+cold-fill-one κs a x y s t p q = same p q
+
+pub refusals-of-start-one : (κs : _) (a : _) → One (refusals-of-start.Learnt κs a) (λ x s. x)
+refusals-of-start-one κs a x y s t p q = same p q
+
+pub refusals-of-time-one : (κs : _) (a : _) → One (refusals-of-time.Learnt κs a) (λ x s. x)
+refusals-of-time-one κs a x y s t p q = same p q
+
+pub refusals-of-packet-one : (κs : _) (a : _) → One (refusals-of-packet.Learnt κs a) (λ x s. x)
+refusals-of-packet-one κs a x y s t p q = same p q
+
+pub gateway-cold-start-one : (κs : _) (a : _) → One (gateway-cold-start.Learnt κs a) (λ x s. afterOf x (now (s .1 .0)) (now (s .1 .1 .0)) (now (s .1 .1 .1 .0)) (now (s .1 .1 .1 .1 .0)))
+gateway-cold-start-one κs a x y s t p q = same p q
+
+pub gateway-pass-one : (κs : _) (a : _) → One (gateway-pass.Learnt κs a) (λ x s. afterOf x (now (s .1 .0)) (now (s .1 .1 .0)) (now (s .1 .1 .1 .0)) (now (s .1 .1 .1 .1 .0)))
+gateway-pass-one κs a x y s t p q = same p q
+
+pub gateway-judge-one : (κs : _) (a : _) → One (gateway-judge.Learnt κs a) (λ x s. afterOf x (now (s .1 .1 .1 .0)) (now (s .1 .1 .1 .1 .0)) (now (s .1 .1 .1 .1 .1 .0)) (now (s .1 .1 .1 .1 .1 .1 .0)))
+gateway-judge-one κs a x y s t p q = same p q
+
+pub tally-tally-empty-one : (κs : _) (a : _) → One (tally-tally-empty.Learnt κs a) (λ x s. x)
+tally-tally-empty-one κs a x y s t p q = same p q
+
+pub tally-tally-with-one : (κs : _) (a : _) → One (tally-tally-with.Learnt κs a) (λ x s. x)
+tally-tally-with-one κs a x y s t p q = same p q
+
+-- tally::add is left out: its proof is a walk by hand, for which there is no `Learnt`; its contract is the equation of `Tally::with`
+
+pub frames-judge-one : (κs : _) (a : _) → One (frames-judge.Learnt κs a) (λ x s. afterOf x (now (s .1 .1 .1 .0)) (now (s .1 .1 .1 .1 .0)) (now (s .1 .1 .1 .1 .1 .0)) (now (s .1 .1 .1 .1 .1 .1 .0)))
+frames-judge-one κs a x y s t p q = same p q
+
+pub replay-next-one : (κs : _) (a : _) → One (replay-next.Learnt κs a) (λ x s. afterOf x (now (s .1 .1 .1 .0)) (now (s .1 .1 .1 .1 .0)) (now (s .1 .1 .1 .1 .1 .0)) (now (s .1 .1 .1 .1 .1 .1 .0)))
+replay-next-one κs a x y s t p q = same p q
+
+pub endings-one-more-one : (κs : _) (a : _) → One (endings-one-more.Learnt κs a) (λ x s. x)
+endings-one-more-one κs a x y s t p q = same p q
+
+pub endings-put-ending-one : (κs : _) (a : _) → One (endings-put-ending.Learnt κs a) (λ x s. roomOf x (now (s .0)))
+endings-put-ending-one κs a x y s t p q = same p q
+
+pub endings-put-refused-header-one : (κs : _) (a : _) → One (endings-put-refused-header.Learnt κs a) (λ x s. roomOf x (now (s .0)))
+endings-put-refused-header-one κs a x y s t p q = same p q
+
+pub printing-feed-one : (κs : _) (a : _) → One (printing-feed.Learnt κs a) (λ x s. printedOf x (now (s .1 .1 .0)) (stateOf (now (s .1 .1 .1 .0)) (now (s .1 .1 .1 .1 .0)) (now (s .1 .1 .1 .1 .1 .0)) (now (s .1 .1 .1 .1 .1 .1 .0))))
+printing-feed-one κs a x y s t p q = same p q
+
+pub streams-shift-one : (κs : _) (a : _) → One (streams-shift.Learnt κs a) (λ x s. heldOf x (now (s .0)))
+streams-shift-one κs a x y s t p q = same p q
+
+-- streams::fill is left out: it reads standard input, and what is read no contract can say
+
+pub streams-within-one : (κs : _) (a : _) → One (streams-within.Learnt κs a) (λ x s. x)
+streams-within-one κs a x y s t p q = same (p .1) (q .1)

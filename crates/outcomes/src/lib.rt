@@ -1,0 +1,1 @@
+// No code: each public contract allows one outcome.
