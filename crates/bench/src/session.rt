@@ -1,4 +1,6 @@
-// Document 01's session of four records, all at second 100, over 4,096 records and 256 lines.
+// Two runs over 4,096 records and 256 lines, with the factory settings and a cold start at second 100. Turns 1 to 4 are document 01's
+// session. Turns 5 to 28 are the incident: twelve plant machines poll one cell machine, nothing is heard for two hours, and then it sweeps
+// all twelve.
 use crate::lines;
 use crate::packets;
 use rulings::answers::Answer;
@@ -23,8 +25,28 @@ fn packet_of(turn: u8) -> [u8; 40] {
             packets::SYN + packets::ACK,
         ),
         3 => packets::packet(packets::TCP, cell, plant, there, packets::ACK),
-        _ => packets::packet(packets::UDP, cell, [10, 0, 0, 2], there, 0),
+        4 => packets::packet(packets::UDP, cell, [10, 0, 0, 2], there, 0),
+        _ => poll_or_sweep(turn),
     }
+}
+
+// One of twelve plant machines polls, up to turn 16; then it is swept.
+fn poll_or_sweep(turn: u8) -> [u8; 40] {
+    let plant = [192, 168, 0, turn % 12 + 1];
+    if turn <= 16 {
+        return packets::packet(
+            packets::UDP,
+            plant,
+            packets::CELL_HOST,
+            packets::PORTS_BACK,
+            0,
+        );
+    }
+    packets::packet(packets::UDP, packets::CELL_HOST, plant, packets::PORTS, 0)
+}
+
+fn time_of(turn: u8) -> u32 {
+    if turn <= 16 { 100 } else { 7300 }
 }
 
 fn judge(
@@ -43,7 +65,7 @@ fn judge(
         tags,
         counts,
         clock,
-        100,
+        time_of(turn),
         &packet,
     )
 }
@@ -55,10 +77,18 @@ fn print_turn(turn: u8, answer: Answer) {
     lines::mark(b'\n');
 }
 
-fn judge_all(records: &mut [u8], tags: &mut [u32], counts: &mut [i16], clock: &mut u32) -> Tally {
+// The turns from one on, up to another that is not among them.
+fn judge_turns(
+    from: u8,
+    to: u8,
+    records: &mut [u8],
+    tags: &mut [u32],
+    counts: &mut [i16],
+    clock: &mut u32,
+) -> Tally {
     let mut tally = Tally::empty();
-    let mut turn = 1u8;
-    while turn <= 4 {
+    let mut turn = from;
+    while turn < to {
         let answer = judge(turn, records, tags, counts, clock);
         print_turn(turn, answer);
         tally = tally.with(answer);
@@ -85,7 +115,7 @@ fn print_totals(totals: [u32; 7]) {
 }
 
 // The tables hold other things before the cold start, so that it has work to do.
-pub fn run() {
+fn run_turns(from: u8, to: u8) {
     let mut records = [255u8; 4096];
     let mut tags = [7u32; 1024];
     let mut counts = [9i16; 1024];
@@ -98,7 +128,12 @@ pub fn run() {
         &mut clock,
         100,
     );
-    let tally = judge_all(&mut records, &mut tags, &mut counts, &mut clock);
+    let tally = judge_turns(from, to, &mut records, &mut tags, &mut counts, &mut clock);
     let totals = tally.totals;
     print_totals(totals);
+}
+
+pub fn run() {
+    run_turns(1, 5);
+    run_turns(5, 29);
 }

@@ -1,18 +1,18 @@
--- `bench::session::judge_all` is safe and ends. From turn to turn the tables keep their lengths.
+-- `bench::session::judge_turns` is safe and ends. From turn to turn the tables keep their lengths.
 -- Assumes nothing.
 use mathlib.Core.Path.{_≡_, refl, _∙_}
 use Prim.Native.Nat.{_-_}
 use native.Mathlib.Omega.{arith}
 use lib.ListN.{length}
-use Rattle.bench.proofs.session.judge_all.Statement.{statement}
-use Rattle.bench.proofs.session.judge_all.Tie as tie
+use Rattle.bench.proofs.session.judge_turns.Statement.{statement}
+use Rattle.bench.proofs.session.judge_turns.Tie as tie
 
 abbrev Inv-loop : tie.InvT-loop
-Inv-loop records₀ tags₀ counts₀ clock₀ tally₀ turn₀ records tags counts clock tally turn =
+Inv-loop from to records₀ tags₀ counts₀ clock₀ tally₀ turn₀ records tags counts clock tally turn =
     (length records ≡ length records₀) × (length tags ≡ length tags₀) × (length counts ≡ length counts₀)
 
 abbrev μ-loop : tie.MeasureT-loop
-μ-loop records₀ tags₀ counts₀ clock₀ tally₀ turn₀ records tags counts clock tally turn = 5 - turn
+μ-loop from to records₀ tags₀ counts₀ clock₀ tally₀ turn₀ records tags counts clock tally turn = to - turn
 
 empty-requires : tie.Need-empty-requires Inv-loop μ-loop
 empty-requires c κs = tt
@@ -56,8 +56,8 @@ same-length-3 c = c .before .loop .inv .2
 returns : tie.Need-returns Inv-loop μ-loop
 returns c = tt
 
-pub judge-all-spec : {M : Type 1} → statement M
-judge-all-spec =
+pub judge-turns-spec : {M : Type 1} → statement M
+judge-turns-spec =
     tie.close
     (tie.spec
     Inv-loop
