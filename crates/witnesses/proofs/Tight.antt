@@ -171,24 +171,24 @@ and-then p q = λ i. p i ∷ q i
 all-made : made allRows ≡ said allRows
 unfolding times howMany every firstBelow foremost badSettings slotOf placeOf addressOf badList holds rankAt rankOf bestNumber bestIn decided tcpKind kindOf needed headerRefusal transportOf headerOf minutePassed agedBy isEmpty larger smaller pointLess decayedBy ownWay countIn emptyWay smallestWay roomFor countOf written badSizes multiplesPassed timePassed fromThePlant fromTheCell fromBlockedCell verdictOf recordAfter countWritten rulingOf earlyRefusal ours byDirection judged
 all-made =
-    and-then (simp (permuted .plant, permuted .plant-and-1, permuted .slot-1-3389, permuted .machine-1))
+    and-then (rw (permuted .plant, permuted .plant-and-1, permuted .slot-1-3389, permuted .machine-1) refl)
     (and-then (simp (permuted .plant, permuted .plant-and-1, permuted .slot-1-23, permuted .machine-1, back .1))
     (and-then (simp (permuted .plant, permuted .plant-and-5, permuted .slot-5-443, permuted .machine-5, back .0))
-    (and-then (simp (permuted .plant, permuted .plant-and-4, permuted .slot-4-443, permuted .machine-4))
-    (and-then (simp (permuted .plant, permuted .plant-and-3, permuted .slot-3-443, permuted .machine-3))
-    (and-then (simp (permuted .plant, permuted .plant-and-2, permuted .slot-2-443, permuted .machine-2))
-    (and-then (simp (permuted .plant, permuted .plant-and-1, permuted .slot-1-22, permuted .machine-1))
-    (and-then (simp (permuted .plant, permuted .plant-and-1, permuted .slot-1-22, permuted .machine-1))
-    (and-then (simp (permuted .plant, permuted .plant-and-1, permuted .slot-1-502, permuted .machine-1))
-    (and-then (simp (permuted .plant, permuted .plant-and-1, permuted .slot-1-80, permuted .machine-1))
-    (and-then (simp (permuted .plant, permuted .plant-and-1, permuted .slot-1-443, permuted .machine-1))
-    (and-then (simp (permuted .plant, permuted .plant-and-1, permuted .slot-1-443, permuted .machine-1)) refl)))))))))))
+    (and-then (rw (permuted .plant, permuted .plant-and-4, permuted .slot-4-443, permuted .machine-4) refl)
+    (and-then (rw (permuted .plant, permuted .plant-and-3, permuted .slot-3-443, permuted .machine-3) refl)
+    (and-then (rw (permuted .plant, permuted .plant-and-2, permuted .slot-2-443, permuted .machine-2) refl)
+    (and-then (rw (permuted .plant, permuted .plant-and-1, permuted .slot-1-22, permuted .machine-1) refl)
+    (and-then (rw (permuted .plant, permuted .plant-and-1, permuted .slot-1-22, permuted .machine-1) refl)
+    (and-then (rw (permuted .plant, permuted .plant-and-1, permuted .slot-1-502, permuted .machine-1) refl)
+    (and-then (rw (permuted .plant, permuted .plant-and-1, permuted .slot-1-80, permuted .machine-1) refl)
+    (and-then (rw (permuted .plant, permuted .plant-and-1, permuted .slot-1-443, permuted .machine-1) refl)
+    (and-then (rw (permuted .plant, permuted .plant-and-1, permuted .slot-1-443, permuted .machine-1) refl) refl)))))))))))
 
 exactly-made : made exactlyRows ≡ said exactlyRows
 unfolding times howMany every firstBelow foremost badSettings slotOf placeOf addressOf badList holds rankAt rankOf bestNumber bestIn decided tcpKind kindOf needed headerRefusal transportOf headerOf minutePassed agedBy isEmpty larger smaller pointLess decayedBy ownWay countIn emptyWay smallestWay roomFor countOf written badSizes multiplesPassed timePassed fromThePlant fromTheCell fromBlockedCell verdictOf recordAfter countWritten rulingOf earlyRefusal ours byDirection judged
 exactly-made =
-    and-then (simp (permuted .plant, permuted .plant-and-1, permuted .slot-1-80, permuted .machine-1))
-    (and-then (simp (permuted .plant, permuted .plant-and-1, permuted .slot-1-443, permuted .machine-1)) refl)
+    and-then (rw (permuted .plant, permuted .plant-and-1, permuted .slot-1-80, permuted .machine-1) refl)
+    (and-then (rw (permuted .plant, permuted .plant-and-1, permuted .slot-1-443, permuted .machine-1) refl) refl)
 
 -- ---- so the runs are these
 same-head : {x y : After Answer} {xs ys : List (After Answer)} → x ∷ xs ≡ y ∷ ys → x ≡ y
