@@ -1,2 +1,3 @@
 -- What is proved of histories.
 pub mod Live
+pub mod Examples

@@ -1,5 +1,5 @@
 -- Document 01, "Fresh, from history": which slots are live, which contacts are fresh, and D, H and R; from a history of calls and
--- answers, and from nothing that is stored.
+-- answers, and from nothing that is stored. Where a history does not begin with a cold start, what was live then is given (`held`).
 -- Assumes nothing.
 use mathlib.Core.Bool.{Bool, true, false, not, _&&_, _||_, cond}
 use mathlib.Core.List.{List, [], _∷_, _++_}
@@ -23,7 +23,7 @@ use Rattle.gateway.specs.Packets.{directionIn}
 use Rattle.gateway.specs.Calls.{refusalIn}
 use Rattle.history.specs.Runs.{Site, Event, judgedAt, passedAt}
 
--- ---- packets of ours, read from their bytes
+-- ---- packets of ours, read from their bytes (a packet that is not ours is never asked about: only one that was judged is)
 pub record Ours : Type 0 where
   pub header : Header
   pub fromPlant : Bool

@@ -2,3 +2,4 @@
 pub mod Runs
 pub mod Fresh
 pub mod Answered
+pub mod Examples

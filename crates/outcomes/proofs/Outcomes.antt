@@ -1,5 +1,6 @@
--- For every public function: two outcomes that its contract allows are equal. An outcome is what is returned and all that is left in lent
--- memory; `Learnt` is what a contract tells its caller. tools/one-outcome writes this file from the sources, so that no function is left out.
+-- For every public function of a library, but for those that are named below with the reason: two outcomes that its contract allows are
+-- equal. An outcome is what is returned and all that is left in lent memory; `Learnt` is what a contract tells its caller. tools/one-outcome
+-- writes this file from the sources.
 -- Assumes nothing.
 use Rattle.capture.proofs.next.Reads as capture-next
 use Rattle.capture.proofs.open.Reads as capture-open

@@ -1,4 +1,4 @@
--- What the gateway remembers is what happened.
+-- What the gateway remembers of connections is what happened.
 -- Assumes nothing.
 use mathlib.Core.Bool.{Bool, true, false, not}
 use mathlib.Core.List.{List, _∷_}
@@ -60,7 +60,7 @@ module _ (g : Gateway) (cold : StartsCold g) (calls : List Call) (bytes : OfByte
   unfolding setup
   memory =
       record {
-        marked-if-live = λ slot l. (
+        marked-exactly-if-live = λ slot l. (
           λ e. live-is (g .settings .dconn) _ _ .0 (sym (marked slot l) ∙ ap not e),
           λ w. not-false _ (marked slot l ∙ live-is (g .settings .dconn) _ _ .1 w),
         );

@@ -1,6 +1,6 @@
--- What the gateway remembers is what happened: a record is marked exactly if its slot is live, its age is the minute boundaries since the
--- last packet forwarded there, and verdict 4 is answered exactly to fresh contacts. So no memory is older than Dconn, and no stored mark
--- and no answer says more than the history does.
+-- What the gateway remembers of connections is what happened: a record is marked exactly if its slot is live, and its age is the minute
+-- boundaries since the last packet forwarded there. So no remembered connection outlasts Dconn boundaries. And after every run as many
+-- contacts of an address were answered 4 as were fresh.
 -- Assumes nothing.
 use mathlib.Core.Bool.{false}
 use mathlib.Core.List.{List, _∷_}
@@ -29,7 +29,7 @@ module _ (g : Gateway) where
   forwardedAt calls slot = forwardedOn document01 (site g) slot (happened g calls)
 
   pub record Memory (calls : List Call) : Type 0 where
-    pub marked-if-live : (slot : ℕ) → slot < site g .records
+    pub marked-exactly-if-live : (slot : ℕ) → slot < site g .records
         → (isCold (recordAt calls slot) ≡ false) ↔ Live (g .settings .dconn) (now calls .clock) (forwardedAt calls slot)
     pub age-is : (slot : ℕ) → slot < site g .records → isCold (recordAt calls slot) ≡ false
         → (last : Forwarded) (earlier : List Forwarded) → forwardedAt calls slot ≡ last ∷ earlier

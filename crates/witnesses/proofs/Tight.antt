@@ -1,6 +1,5 @@
 -- The two runs of specs/Tight give what is said there: one machine gets exactly T + D + H + T × R, and then no more; and a machine is blocked
--- after exactly T. Each call is computed from the state that the one before it left. The states and answers were worked out from document
--- 01 by a program of its own, apart from all of this.
+-- after exactly T. Each call is computed from the state that the one before it left.
 -- Assumes nothing.
 use mathlib.Core.Bool.{Bool, true, _&&_}
 use mathlib.Core.List.{List, [], _∷_, map}
@@ -33,10 +32,6 @@ use Rattle.verdicts.specs.Verdicts.{fromThePlant, fromTheCell, fromBlockedCell,
 use Rattle.rulings.specs.declared.answers.Replacement.{Replacement}
 use Rattle.rulings.specs.declared.answers.Replacement.the-variants.{None, Address}
 use Rattle.rulings.specs.declared.answers.Answer.{Answer}
-use Rattle.rulings.specs.declared.answers.Answer.{Answer}
-use Rattle.rulings.specs.declared.answers.Answer.{Answer}
-use Rattle.rulings.specs.declared.answers.Answer.{Answer}
-use Rattle.rulings.specs.declared.answers.Answer.{Answer}
 use Rattle.rulings.specs.declared.answers.Answer.the-variants.{Judged}
 use Rattle.rulings.specs.Rules.{document01}
 use Rattle.rulings.specs.Rulings.{countWritten, rulingOf}
@@ -46,7 +41,7 @@ use Rattle.gateway.specs.Packets.{ours, byDirection}
 use Rattle.gateway.specs.Calls.{State, stateOf, After, started, judged}
 use Rattle.history.specs.Runs.{Call, packetAt, Event, judgedAt, stateAfter, eventOf, left, history}
 use Rattle.history.specs.Answered.{fours}
-use Rattle.promises.specs.Demand3.{EachBelow, StartsCold, OfBytes, site, first, happened, F, D, H, R, T}
+use Rattle.promises.specs.Demand3.{EachBelow, StartsCold, OfBytes, site, first, happened, F, D, H, R, most, least}
 use Rattle.promises.proofs.Memory.{memory}
 use Rattle.witnesses.specs.Tight.{gateway, syn, synAckBack, machine, all, exactly}
 
@@ -62,16 +57,20 @@ record Words : Type 0 where
   plant-and-3 : permutation.E zeros 0x68724ECC ≡ 0xCC0DBCBD
   plant-and-4 : permutation.E zeros 0x68724ECB ≡ 0x300DBCBF
   plant-and-5 : permutation.E zeros 0x68724ECA ≡ 0x8F0DBCBD
-  slot-1-22 : permutation.E zeros 0x49433CAF ≡ 0xAE806641
-  slot-1-23 : permutation.E zeros 0x49433CAE ≡ 0x74C3A642
   slot-1-80 : permutation.E zeros 0x49433CE9 ≡ 0x0DB16E70
-  slot-1-443 : permutation.E zeros 0x49433D02 ≡ 0x0B83A2E8
-  slot-1-502 : permutation.E zeros 0x49433D4F ≡ 0x968062EE
-  slot-1-3389 : permutation.E zeros 0x49433184 ≡ 0x66186569
-  slot-2-443 : permutation.E zeros 0x550DBD02 ≡ 0x0DC01B34
-  slot-3-443 : permutation.E zeros 0xCC0DBD06 ≡ 0x44CE0707
-  slot-4-443 : permutation.E zeros 0x300DBD04 ≡ 0x91926F06
-  slot-5-443 : permutation.E zeros 0x8F0DBD06 ≡ 0xA9001B35
+  slot-1-2049 : permutation.E zeros 0x494334B8 ≡ 0xEA986501
+  slot-1-4840 : permutation.E zeros 0x49432E51 ≡ 0x72001C82
+  slot-1-5432 : permutation.E zeros 0x49432981 ≡ 0x3E801D59
+  slot-1-6379 : permutation.E zeros 0x49432452 ≡ 0xE203CD58
+  slot-1-11211 : permutation.E zeros 0x49431772 ≡ 0xD0839F94
+  slot-1-27017 : permutation.E zeros 0x49435530 ≡ 0x0F43BA55
+  slot-2-4840 : permutation.E zeros 0x550DAE51 ≡ 0xB8504377
+  slot-2-6379 : permutation.E zeros 0x550DA452 ≡ 0xF1801B7E
+  slot-3-4840 : permutation.E zeros 0xCC0DAE55 ≡ 0x536F2A6B
+  slot-3-6379 : permutation.E zeros 0xCC0DA456 ≡ 0x20CE7826
+  slot-4-4840 : permutation.E zeros 0x300DAE57 ≡ 0x66227F23
+  slot-4-6379 : permutation.E zeros 0x300DA454 ≡ 0x5CAA7DED
+  slot-5-6379 : permutation.E zeros 0x8F0DA456 ≡ 0x9A801B7F
   machine-1 : permutation.E zeros 0x0A000001 ≡ 0xFCE676E6
   machine-2 : permutation.E zeros 0x0A000002 ≡ 0x732FCEE7
   machine-3 : permutation.E zeros 0x0A000003 ≡ 0xF90E4EE6
@@ -88,16 +87,20 @@ permuted =
       plant-and-3 = refl;
       plant-and-4 = refl;
       plant-and-5 = refl;
-      slot-1-22 = refl;
-      slot-1-23 = refl;
       slot-1-80 = refl;
-      slot-1-443 = refl;
-      slot-1-502 = refl;
-      slot-1-3389 = refl;
-      slot-2-443 = refl;
-      slot-3-443 = refl;
-      slot-4-443 = refl;
-      slot-5-443 = refl;
+      slot-1-2049 = refl;
+      slot-1-4840 = refl;
+      slot-1-5432 = refl;
+      slot-1-6379 = refl;
+      slot-1-11211 = refl;
+      slot-1-27017 = refl;
+      slot-2-4840 = refl;
+      slot-2-6379 = refl;
+      slot-3-4840 = refl;
+      slot-3-6379 = refl;
+      slot-4-4840 = refl;
+      slot-4-6379 = refl;
+      slot-5-6379 = refl;
       machine-1 = refl;
       machine-2 = refl;
       machine-3 = refl;
@@ -145,50 +148,69 @@ abbrev eventsOf : List Row → List Event
 eventsOf rows = map (λ row. judgedAt (row .time) (row .bytes) (Judged (row .verdict) (row .count) (row .replaced))) rows
 
 -- ---- the runs, newest first
+-- all that is allowed, up to where others come in, and from there on
+abbrev firstRows : List Row
+firstRows =
+    row 120 (syn 1 5432) FreshContact (pos 2) None (stateOf (65 ∷ 0 ∷ 65 ∷ 0 ∷ 65 ∷ 0 ∷ 0 ∷ 0 ∷ 193 ∷ 64 ∷ 0 ∷ 0 ∷ 0 ∷ 0 ∷ 0 ∷ 0 ∷ []) (0xFCE676E6 ∷ 0 ∷ 0 ∷ 0 ∷ []) (pos 2 ∷ minus 32768 ∷ minus 32768 ∷ minus 32768 ∷ []) 120) ∷
+    row 100 (syn 1 80) FreshContact (pos 2) None (stateOf (64 ∷ 0 ∷ 64 ∷ 0 ∷ 64 ∷ 0 ∷ 0 ∷ 0 ∷ 192 ∷ 0 ∷ 0 ∷ 0 ∷ 0 ∷ 0 ∷ 0 ∷ 0 ∷ []) (0xFCE676E6 ∷ 0 ∷ 0 ∷ 0 ∷ []) (pos 2 ∷ minus 32768 ∷ minus 32768 ∷ minus 32768 ∷ []) 100) ∷
+    row 100 (syn 1 11211) FreshContact (pos 1) None (stateOf (0 ∷ 0 ∷ 64 ∷ 0 ∷ 64 ∷ 0 ∷ 0 ∷ 0 ∷ 192 ∷ 0 ∷ 0 ∷ 0 ∷ 0 ∷ 0 ∷ 0 ∷ 0 ∷ []) (0xFCE676E6 ∷ 0 ∷ 0 ∷ 0 ∷ []) (pos 1 ∷ minus 32768 ∷ minus 32768 ∷ minus 32768 ∷ []) 100) ∷
+    row 100 (syn 1 4840) FreshContact (pos 0) None (stateOf (0 ∷ 0 ∷ 64 ∷ 0 ∷ 0 ∷ 0 ∷ 0 ∷ 0 ∷ 192 ∷ 0 ∷ 0 ∷ 0 ∷ 0 ∷ 0 ∷ 0 ∷ 0 ∷ []) (0xFCE676E6 ∷ 0 ∷ 0 ∷ 0 ∷ []) (pos 0 ∷ minus 32768 ∷ minus 32768 ∷ minus 32768 ∷ []) 100) ∷
+    row 100 (synAckBack 1 6379) CreditOfTwo (minus 1) None (stateOf (0 ∷ 0 ∷ 0 ∷ 0 ∷ 0 ∷ 0 ∷ 0 ∷ 0 ∷ 192 ∷ 0 ∷ 0 ∷ 0 ∷ 0 ∷ 0 ∷ 0 ∷ 0 ∷ []) (0xFCE676E6 ∷ 0 ∷ 0 ∷ 0 ∷ []) (minus 1 ∷ minus 32768 ∷ minus 32768 ∷ minus 32768 ∷ []) 100) ∷
+    row 100 (syn 1 6379) FreshContact (pos 1) None (stateOf (0 ∷ 0 ∷ 0 ∷ 0 ∷ 0 ∷ 0 ∷ 0 ∷ 0 ∷ 64 ∷ 0 ∷ 0 ∷ 0 ∷ 0 ∷ 0 ∷ 0 ∷ 0 ∷ []) (0xFCE676E6 ∷ 0 ∷ 0 ∷ 0 ∷ []) (pos 1 ∷ minus 32768 ∷ minus 32768 ∷ minus 32768 ∷ []) 100) ∷ []
+
 abbrev allRows : List Row
 allRows =
-    row 120 (syn 1 3389) Blocked (pos 1) None (stateOf (65 ∷ 64 ∷ 64 ∷ 0 ∷ 64 ∷ 64 ∷ 64 ∷ 64 ∷ 193 ∷ 0 ∷ 0 ∷ 0 ∷ 0 ∷ 0 ∷ 65 ∷ 0 ∷ []) (0xFCE676E6 ∷ 0x732FCEE7 ∷ 0xF90E4EE6 ∷ 0x83294EE6 ∷ []) (pos 1 ∷ pos 1 ∷ pos 1 ∷ pos 1 ∷ []) 120) ∷
-    row 120 (syn 1 23) FreshContact (pos 1) (Address 0x0A000005) (stateOf (65 ∷ 64 ∷ 64 ∷ 0 ∷ 64 ∷ 64 ∷ 64 ∷ 64 ∷ 193 ∷ 0 ∷ 0 ∷ 0 ∷ 0 ∷ 0 ∷ 65 ∷ 0 ∷ []) (0xFCE676E6 ∷ 0x732FCEE7 ∷ 0xF90E4EE6 ∷ 0x83294EE6 ∷ []) (pos 1 ∷ pos 1 ∷ pos 1 ∷ pos 1 ∷ []) 120) ∷
-    row 120 (syn 5 443) FreshContact (pos 1) (Address 0x0A000001) (stateOf (65 ∷ 64 ∷ 0 ∷ 0 ∷ 64 ∷ 64 ∷ 64 ∷ 64 ∷ 193 ∷ 0 ∷ 0 ∷ 0 ∷ 0 ∷ 0 ∷ 65 ∷ 0 ∷ []) (0xC0FE76E7 ∷ 0x732FCEE7 ∷ 0xF90E4EE6 ∷ 0x83294EE6 ∷ []) (pos 1 ∷ pos 1 ∷ pos 1 ∷ pos 1 ∷ []) 120) ∷
-    row 120 (syn 4 443) FreshContact (pos 1) None (stateOf (65 ∷ 64 ∷ 0 ∷ 0 ∷ 64 ∷ 0 ∷ 64 ∷ 64 ∷ 193 ∷ 0 ∷ 0 ∷ 0 ∷ 0 ∷ 0 ∷ 65 ∷ 0 ∷ []) (0xFCE676E6 ∷ 0x732FCEE7 ∷ 0xF90E4EE6 ∷ 0x83294EE6 ∷ []) (pos 1 ∷ pos 1 ∷ pos 1 ∷ pos 1 ∷ []) 120) ∷
-    row 120 (syn 3 443) FreshContact (pos 1) None (stateOf (65 ∷ 64 ∷ 0 ∷ 0 ∷ 64 ∷ 0 ∷ 0 ∷ 64 ∷ 193 ∷ 0 ∷ 0 ∷ 0 ∷ 0 ∷ 0 ∷ 65 ∷ 0 ∷ []) (0xFCE676E6 ∷ 0x732FCEE7 ∷ 0xF90E4EE6 ∷ 0 ∷ []) (pos 1 ∷ pos 1 ∷ pos 1 ∷ minus 32768 ∷ []) 120) ∷
-    row 120 (syn 2 443) FreshContact (pos 1) None (stateOf (65 ∷ 64 ∷ 0 ∷ 0 ∷ 64 ∷ 0 ∷ 0 ∷ 0 ∷ 193 ∷ 0 ∷ 0 ∷ 0 ∷ 0 ∷ 0 ∷ 65 ∷ 0 ∷ []) (0xFCE676E6 ∷ 0x732FCEE7 ∷ 0 ∷ 0 ∷ []) (pos 1 ∷ pos 1 ∷ minus 32768 ∷ minus 32768 ∷ []) 120) ∷
-    row 120 (syn 1 22) FreshContact (pos 1) None (stateOf (65 ∷ 64 ∷ 0 ∷ 0 ∷ 0 ∷ 0 ∷ 0 ∷ 0 ∷ 193 ∷ 0 ∷ 0 ∷ 0 ∷ 0 ∷ 0 ∷ 65 ∷ 0 ∷ []) (0xFCE676E6 ∷ 0 ∷ 0 ∷ 0 ∷ []) (pos 1 ∷ minus 32768 ∷ minus 32768 ∷ minus 32768 ∷ []) 120) ∷
-    row 100 (syn 1 22) Blocked (pos 1) None (stateOf (64 ∷ 0 ∷ 0 ∷ 0 ∷ 0 ∷ 0 ∷ 0 ∷ 0 ∷ 192 ∷ 0 ∷ 0 ∷ 0 ∷ 0 ∷ 0 ∷ 64 ∷ 0 ∷ []) (0xFCE676E6 ∷ 0 ∷ 0 ∷ 0 ∷ []) (pos 1 ∷ minus 32768 ∷ minus 32768 ∷ minus 32768 ∷ []) 100) ∷
-    row 100 (syn 1 502) FreshContact (pos 1) None (stateOf (64 ∷ 0 ∷ 0 ∷ 0 ∷ 0 ∷ 0 ∷ 0 ∷ 0 ∷ 192 ∷ 0 ∷ 0 ∷ 0 ∷ 0 ∷ 0 ∷ 64 ∷ 0 ∷ []) (0xFCE676E6 ∷ 0 ∷ 0 ∷ 0 ∷ []) (pos 1 ∷ minus 32768 ∷ minus 32768 ∷ minus 32768 ∷ []) 100) ∷
-    row 100 (syn 1 80) FreshContact (pos 0) None (stateOf (64 ∷ 0 ∷ 0 ∷ 0 ∷ 0 ∷ 0 ∷ 0 ∷ 0 ∷ 192 ∷ 0 ∷ 0 ∷ 0 ∷ 0 ∷ 0 ∷ 0 ∷ 0 ∷ []) (0xFCE676E6 ∷ 0 ∷ 0 ∷ 0 ∷ []) (pos 0 ∷ minus 32768 ∷ minus 32768 ∷ minus 32768 ∷ []) 100) ∷
-    row 100 (synAckBack 1 443) CreditOfTwo (minus 1) None (stateOf (0 ∷ 0 ∷ 0 ∷ 0 ∷ 0 ∷ 0 ∷ 0 ∷ 0 ∷ 192 ∷ 0 ∷ 0 ∷ 0 ∷ 0 ∷ 0 ∷ 0 ∷ 0 ∷ []) (0xFCE676E6 ∷ 0 ∷ 0 ∷ 0 ∷ []) (minus 1 ∷ minus 32768 ∷ minus 32768 ∷ minus 32768 ∷ []) 100) ∷
-    row 100 (syn 1 443) FreshContact (pos 1) None (stateOf (0 ∷ 0 ∷ 0 ∷ 0 ∷ 0 ∷ 0 ∷ 0 ∷ 0 ∷ 64 ∷ 0 ∷ 0 ∷ 0 ∷ 0 ∷ 0 ∷ 0 ∷ 0 ∷ []) (0xFCE676E6 ∷ 0 ∷ 0 ∷ 0 ∷ []) (pos 1 ∷ minus 32768 ∷ minus 32768 ∷ minus 32768 ∷ []) 100) ∷ []
+    row 120 (syn 1 2049) Blocked (pos 2) None (stateOf (65 ∷ 64 ∷ 65 ∷ 64 ∷ 65 ∷ 64 ∷ 64 ∷ 64 ∷ 193 ∷ 64 ∷ 0 ∷ 64 ∷ 0 ∷ 64 ∷ 64 ∷ 64 ∷ []) (0xFCE676E6 ∷ 0x732FCEE7 ∷ 0xF90E4EE6 ∷ 0x83294EE6 ∷ []) (pos 2 ∷ pos 2 ∷ pos 2 ∷ pos 2 ∷ []) 120) ∷
+    row 120 (syn 1 2049) FreshContact (pos 2) None (stateOf (65 ∷ 64 ∷ 65 ∷ 64 ∷ 65 ∷ 64 ∷ 64 ∷ 64 ∷ 193 ∷ 64 ∷ 0 ∷ 64 ∷ 0 ∷ 64 ∷ 64 ∷ 64 ∷ []) (0xFCE676E6 ∷ 0x732FCEE7 ∷ 0xF90E4EE6 ∷ 0x83294EE6 ∷ []) (pos 2 ∷ pos 2 ∷ pos 2 ∷ pos 2 ∷ []) 120) ∷
+    row 120 (syn 1 27017) FreshContact (pos 1) (Address 0x0A000005) (stateOf (65 ∷ 0 ∷ 65 ∷ 64 ∷ 65 ∷ 64 ∷ 64 ∷ 64 ∷ 193 ∷ 64 ∷ 0 ∷ 64 ∷ 0 ∷ 64 ∷ 64 ∷ 64 ∷ []) (0xFCE676E6 ∷ 0x732FCEE7 ∷ 0xF90E4EE6 ∷ 0x83294EE6 ∷ []) (pos 1 ∷ pos 2 ∷ pos 2 ∷ pos 2 ∷ []) 120) ∷
+    row 120 (syn 5 6379) FreshContact (pos 1) (Address 0x0A000001) (stateOf (65 ∷ 0 ∷ 65 ∷ 64 ∷ 65 ∷ 0 ∷ 64 ∷ 64 ∷ 193 ∷ 64 ∷ 0 ∷ 64 ∷ 0 ∷ 64 ∷ 64 ∷ 64 ∷ []) (0xC0FE76E7 ∷ 0x732FCEE7 ∷ 0xF90E4EE6 ∷ 0x83294EE6 ∷ []) (pos 1 ∷ pos 2 ∷ pos 2 ∷ pos 2 ∷ []) 120) ∷
+    row 120 (syn 4 4840) FreshContact (pos 2) None (stateOf (65 ∷ 0 ∷ 65 ∷ 64 ∷ 65 ∷ 0 ∷ 64 ∷ 64 ∷ 193 ∷ 64 ∷ 0 ∷ 64 ∷ 0 ∷ 64 ∷ 64 ∷ 0 ∷ []) (0xFCE676E6 ∷ 0x732FCEE7 ∷ 0xF90E4EE6 ∷ 0x83294EE6 ∷ []) (pos 2 ∷ pos 2 ∷ pos 2 ∷ pos 2 ∷ []) 120) ∷
+    row 120 (syn 4 6379) FreshContact (pos 1) None (stateOf (65 ∷ 0 ∷ 65 ∷ 0 ∷ 65 ∷ 0 ∷ 64 ∷ 64 ∷ 193 ∷ 64 ∷ 0 ∷ 64 ∷ 0 ∷ 64 ∷ 64 ∷ 0 ∷ []) (0xFCE676E6 ∷ 0x732FCEE7 ∷ 0xF90E4EE6 ∷ 0x83294EE6 ∷ []) (pos 2 ∷ pos 2 ∷ pos 2 ∷ pos 1 ∷ []) 120) ∷
+    row 120 (syn 3 4840) FreshContact (pos 2) None (stateOf (65 ∷ 0 ∷ 65 ∷ 0 ∷ 65 ∷ 0 ∷ 64 ∷ 64 ∷ 193 ∷ 64 ∷ 0 ∷ 64 ∷ 0 ∷ 0 ∷ 64 ∷ 0 ∷ []) (0xFCE676E6 ∷ 0x732FCEE7 ∷ 0xF90E4EE6 ∷ 0 ∷ []) (pos 2 ∷ pos 2 ∷ pos 2 ∷ minus 32768 ∷ []) 120) ∷
+    row 120 (syn 3 6379) FreshContact (pos 1) None (stateOf (65 ∷ 0 ∷ 65 ∷ 0 ∷ 65 ∷ 0 ∷ 64 ∷ 64 ∷ 193 ∷ 64 ∷ 0 ∷ 0 ∷ 0 ∷ 0 ∷ 64 ∷ 0 ∷ []) (0xFCE676E6 ∷ 0x732FCEE7 ∷ 0xF90E4EE6 ∷ 0 ∷ []) (pos 2 ∷ pos 2 ∷ pos 1 ∷ minus 32768 ∷ []) 120) ∷
+    row 120 (syn 2 4840) FreshContact (pos 2) None (stateOf (65 ∷ 0 ∷ 65 ∷ 0 ∷ 65 ∷ 0 ∷ 0 ∷ 64 ∷ 193 ∷ 64 ∷ 0 ∷ 0 ∷ 0 ∷ 0 ∷ 64 ∷ 0 ∷ []) (0xFCE676E6 ∷ 0x732FCEE7 ∷ 0 ∷ 0 ∷ []) (pos 2 ∷ pos 2 ∷ minus 32768 ∷ minus 32768 ∷ []) 120) ∷
+    row 120 (syn 2 6379) FreshContact (pos 1) None (stateOf (65 ∷ 0 ∷ 65 ∷ 0 ∷ 65 ∷ 0 ∷ 0 ∷ 0 ∷ 193 ∷ 64 ∷ 0 ∷ 0 ∷ 0 ∷ 0 ∷ 64 ∷ 0 ∷ []) (0xFCE676E6 ∷ 0x732FCEE7 ∷ 0 ∷ 0 ∷ []) (pos 2 ∷ pos 1 ∷ minus 32768 ∷ minus 32768 ∷ []) 120) ∷ firstRows
 
 abbrev exactlyRows : List Row
 exactlyRows =
-    row 100 (syn 1 80) Blocked (pos 1) None (stateOf (0 ∷ 0 ∷ 0 ∷ 0 ∷ 0 ∷ 0 ∷ 0 ∷ 0 ∷ 64 ∷ 0 ∷ 0 ∷ 0 ∷ 0 ∷ 0 ∷ 0 ∷ 0 ∷ []) (0xFCE676E6 ∷ 0 ∷ 0 ∷ 0 ∷ []) (pos 1 ∷ minus 32768 ∷ minus 32768 ∷ minus 32768 ∷ []) 100) ∷
-    row 100 (syn 1 443) FreshContact (pos 1) None (stateOf (0 ∷ 0 ∷ 0 ∷ 0 ∷ 0 ∷ 0 ∷ 0 ∷ 0 ∷ 64 ∷ 0 ∷ 0 ∷ 0 ∷ 0 ∷ 0 ∷ 0 ∷ 0 ∷ []) (0xFCE676E6 ∷ 0 ∷ 0 ∷ 0 ∷ []) (pos 1 ∷ minus 32768 ∷ minus 32768 ∷ minus 32768 ∷ []) 100) ∷ []
+    row 100 (syn 1 11211) Blocked (pos 2) None (stateOf (0 ∷ 0 ∷ 64 ∷ 0 ∷ 0 ∷ 0 ∷ 0 ∷ 0 ∷ 64 ∷ 0 ∷ 0 ∷ 0 ∷ 0 ∷ 0 ∷ 0 ∷ 0 ∷ []) (0xFCE676E6 ∷ 0 ∷ 0 ∷ 0 ∷ []) (pos 2 ∷ minus 32768 ∷ minus 32768 ∷ minus 32768 ∷ []) 100) ∷
+    row 100 (syn 1 4840) FreshContact (pos 2) None (stateOf (0 ∷ 0 ∷ 64 ∷ 0 ∷ 0 ∷ 0 ∷ 0 ∷ 0 ∷ 64 ∷ 0 ∷ 0 ∷ 0 ∷ 0 ∷ 0 ∷ 0 ∷ 0 ∷ []) (0xFCE676E6 ∷ 0 ∷ 0 ∷ 0 ∷ []) (pos 2 ∷ minus 32768 ∷ minus 32768 ∷ minus 32768 ∷ []) 100) ∷
+    row 100 (syn 1 6379) FreshContact (pos 1) None (stateOf (0 ∷ 0 ∷ 0 ∷ 0 ∷ 0 ∷ 0 ∷ 0 ∷ 0 ∷ 64 ∷ 0 ∷ 0 ∷ 0 ∷ 0 ∷ 0 ∷ 0 ∷ 0 ∷ []) (0xFCE676E6 ∷ 0 ∷ 0 ∷ 0 ∷ []) (pos 1 ∷ minus 32768 ∷ minus 32768 ∷ minus 32768 ∷ []) 100) ∷ []
 
 and-then : {x y : After Answer} {xs ys : List (After Answer)} → x ≡ y → xs ≡ ys → x ∷ xs ≡ y ∷ ys
 and-then p q = λ i. p i ∷ q i
 
+first-made : made firstRows ≡ said firstRows
+unfolding times howMany every firstBelow foremost badSettings slotOf placeOf addressOf badList holds rankAt rankOf bestNumber bestIn decided tcpKind kindOf needed headerRefusal transportOf headerOf minutePassed agedBy isEmpty larger smaller pointLess decayedBy ownWay countIn emptyWay smallestWay roomFor countOf written badSizes multiplesPassed timePassed fromThePlant fromTheCell fromBlockedCell verdictOf recordAfter countWritten rulingOf earlyRefusal ours byDirection judged
+first-made =
+    and-then (rw (permuted .plant, permuted .plant-and-1, permuted .slot-1-5432, permuted .machine-1) refl)
+    (and-then (rw (permuted .plant, permuted .plant-and-1, permuted .slot-1-80, permuted .machine-1) refl)
+    (and-then (rw (permuted .plant, permuted .plant-and-1, permuted .slot-1-11211, permuted .machine-1) refl)
+    (and-then (rw (permuted .plant, permuted .plant-and-1, permuted .slot-1-4840, permuted .machine-1) refl)
+    (and-then (rw (permuted .plant, permuted .plant-and-1, permuted .slot-1-6379, permuted .machine-1) refl)
+    (and-then (rw (permuted .plant, permuted .plant-and-1, permuted .slot-1-6379, permuted .machine-1) refl) refl)))))
+
 all-made : made allRows ≡ said allRows
 unfolding times howMany every firstBelow foremost badSettings slotOf placeOf addressOf badList holds rankAt rankOf bestNumber bestIn decided tcpKind kindOf needed headerRefusal transportOf headerOf minutePassed agedBy isEmpty larger smaller pointLess decayedBy ownWay countIn emptyWay smallestWay roomFor countOf written badSizes multiplesPassed timePassed fromThePlant fromTheCell fromBlockedCell verdictOf recordAfter countWritten rulingOf earlyRefusal ours byDirection judged
 all-made =
-    and-then (rw (permuted .plant, permuted .plant-and-1, permuted .slot-1-3389, permuted .machine-1) refl)
-    (and-then (simp (permuted .plant, permuted .plant-and-1, permuted .slot-1-23, permuted .machine-1, back .1))
-    (and-then (simp (permuted .plant, permuted .plant-and-5, permuted .slot-5-443, permuted .machine-5, back .0))
-    (and-then (rw (permuted .plant, permuted .plant-and-4, permuted .slot-4-443, permuted .machine-4) refl)
-    (and-then (rw (permuted .plant, permuted .plant-and-3, permuted .slot-3-443, permuted .machine-3) refl)
-    (and-then (rw (permuted .plant, permuted .plant-and-2, permuted .slot-2-443, permuted .machine-2) refl)
-    (and-then (rw (permuted .plant, permuted .plant-and-1, permuted .slot-1-22, permuted .machine-1) refl)
-    (and-then (rw (permuted .plant, permuted .plant-and-1, permuted .slot-1-22, permuted .machine-1) refl)
-    (and-then (rw (permuted .plant, permuted .plant-and-1, permuted .slot-1-502, permuted .machine-1) refl)
-    (and-then (rw (permuted .plant, permuted .plant-and-1, permuted .slot-1-80, permuted .machine-1) refl)
-    (and-then (rw (permuted .plant, permuted .plant-and-1, permuted .slot-1-443, permuted .machine-1) refl)
-    (and-then (rw (permuted .plant, permuted .plant-and-1, permuted .slot-1-443, permuted .machine-1) refl) refl)))))))))))
+    and-then (rw (permuted .plant, permuted .plant-and-1, permuted .slot-1-2049, permuted .machine-1) refl)
+    (and-then (rw (permuted .plant, permuted .plant-and-1, permuted .slot-1-2049, permuted .machine-1) refl)
+    (and-then (simp (permuted .plant, permuted .plant-and-1, permuted .slot-1-27017, permuted .machine-1, back .1))
+    (and-then (simp (permuted .plant, permuted .plant-and-5, permuted .slot-5-6379, permuted .machine-5, back .0))
+    (and-then (rw (permuted .plant, permuted .plant-and-4, permuted .slot-4-4840, permuted .machine-4) refl)
+    (and-then (rw (permuted .plant, permuted .plant-and-4, permuted .slot-4-6379, permuted .machine-4) refl)
+    (and-then (rw (permuted .plant, permuted .plant-and-3, permuted .slot-3-4840, permuted .machine-3) refl)
+    (and-then (rw (permuted .plant, permuted .plant-and-3, permuted .slot-3-6379, permuted .machine-3) refl)
+    (and-then (rw (permuted .plant, permuted .plant-and-2, permuted .slot-2-4840, permuted .machine-2) refl)
+    (and-then (rw (permuted .plant, permuted .plant-and-2, permuted .slot-2-6379, permuted .machine-2) refl)
+    (first-made))))))))))
 
 exactly-made : made exactlyRows ≡ said exactlyRows
 unfolding times howMany every firstBelow foremost badSettings slotOf placeOf addressOf badList holds rankAt rankOf bestNumber bestIn decided tcpKind kindOf needed headerRefusal transportOf headerOf minutePassed agedBy isEmpty larger smaller pointLess decayedBy ownWay countIn emptyWay smallestWay roomFor countOf written badSizes multiplesPassed timePassed fromThePlant fromTheCell fromBlockedCell verdictOf recordAfter countWritten rulingOf earlyRefusal ours byDirection judged
 exactly-made =
-    and-then (rw (permuted .plant, permuted .plant-and-1, permuted .slot-1-80, permuted .machine-1) refl)
-    (and-then (rw (permuted .plant, permuted .plant-and-1, permuted .slot-1-443, permuted .machine-1) refl) refl)
+    and-then (rw (permuted .plant, permuted .plant-and-1, permuted .slot-1-11211, permuted .machine-1) refl)
+    (and-then (rw (permuted .plant, permuted .plant-and-1, permuted .slot-1-4840, permuted .machine-1) refl)
+    (and-then (rw (permuted .plant, permuted .plant-and-1, permuted .slot-1-6379, permuted .machine-1) refl) refl))
 
 -- ---- so the runs are these
 same-head : {x y : After Answer} {xs ys : List (After Answer)} → x ∷ xs ≡ y ∷ ys → x ≡ y
@@ -253,10 +275,10 @@ fresh-is : (rows : List Row) → made rows ≡ said rows → bytesOf rows ≡ tr
 fresh-is rows e b =
     memory gateway starts (callsOf rows) (of-bytes rows b) .answered-as-fresh machine ∙ ap (fours document01 (site gateway) machine) (happened-is rows e)
 
--- ---- all that is allowed: five, by T 1, D 1, H 2 and R 1
-five : F gateway machine (happened gateway all) ≡ 5
+-- ---- all that is allowed: seven, by T 2, D 1, H 2 and R 1
+seven : F gateway machine (happened gateway all) ≡ 7
 unfolding every firstBelow foremost holds rankAt rankOf bestNumber bestIn decided headerOf
-five = fresh-is allRows all-made refl
+seven = fresh-is allRows all-made refl
 
 each-counts : (D gateway (happened gateway all) ≡ 1) × (H gateway machine (happened gateway all) ≡ 2) × (R gateway machine (happened gateway all) ≡ 1)
 unfolding howMany multiplesPassed every firstBelow foremost holds rankAt rankOf bestNumber bestIn decided headerOf
@@ -264,30 +286,31 @@ each-counts =
     let h = happened-is allRows all-made in
     (ap (D gateway) h, ap (H gateway machine) h, ap (R gateway machine) h)
 
--- the bound is reached, with every term of it above 0: none of them could go
-pub reached : F gateway machine (happened gateway all)
-    ≡ T gateway + D gateway (happened gateway all) + H gateway machine (happened gateway all) + T gateway * R gateway machine (happened gateway all)
-reached = omega (arith, five, each-counts)
+-- the bound is reached, with every term of it above 0 and T above 1: none of them could go, nor the factor T
+pub reached : F gateway machine (happened gateway all) ≡ most gateway machine (happened gateway all)
+reached = omega (arith, seven, each-counts)
 
 pub every-term : (0 < D gateway (happened gateway all)) × (0 < H gateway machine (happened gateway all)) × (0 < R gateway machine (happened gateway all))
 every-term = (omega (arith, each-counts), omega (arith, each-counts), omega (arith, each-counts))
 
 -- and then it gets not one more
-pub no-more : (before : List Event) × (happened gateway all ≡ judgedAt 120 (syn 1 3389) (Judged Blocked (pos 1) None) ∷ before)
+pub no-more : (before : List Event) × (happened gateway all ≡ judgedAt 120 (syn 1 2049) (Judged Blocked (pos 2) None) ∷ before)
 no-more = (_, happened-is allRows all-made)
 
 -- ---- blocked after exactly T
+abbrev twoRows : List Row
+twoRows =
+    row 100 (syn 1 4840) FreshContact (pos 2) None (stateOf (0 ∷ 0 ∷ 64 ∷ 0 ∷ 0 ∷ 0 ∷ 0 ∷ 0 ∷ 64 ∷ 0 ∷ 0 ∷ 0 ∷ 0 ∷ 0 ∷ 0 ∷ 0 ∷ []) (0xFCE676E6 ∷ 0 ∷ 0 ∷ 0 ∷ []) (pos 2 ∷ minus 32768 ∷ minus 32768 ∷ minus 32768 ∷ []) 100) ∷
+    row 100 (syn 1 6379) FreshContact (pos 1) None (stateOf (0 ∷ 0 ∷ 0 ∷ 0 ∷ 0 ∷ 0 ∷ 0 ∷ 0 ∷ 64 ∷ 0 ∷ 0 ∷ 0 ∷ 0 ∷ 0 ∷ 0 ∷ 0 ∷ []) (0xFCE676E6 ∷ 0 ∷ 0 ∷ 0 ∷ []) (pos 1 ∷ minus 32768 ∷ minus 32768 ∷ minus 32768 ∷ []) 100) ∷ []
+
 pub blocked-after-T : (before : List Event)
-    × (happened gateway exactly ≡ judgedAt 100 (syn 1 80) (Judged Blocked (pos 1) None) ∷ before)
-    × (F gateway machine before ≡ T gateway)
+    × (happened gateway exactly ≡ judgedAt 100 (syn 1 11211) (Judged Blocked (pos 2) None) ∷ before)
+    × (F gateway machine before ≡ least gateway)
 unfolding history every firstBelow foremost holds rankAt rankOf bestNumber bestIn decided headerOf
 blocked-after-T =
-    (happened gateway (callsOf oneRow), happened-exactly, fresh-is oneRow (same-tail exactly-made) refl)
+    (happened gateway (callsOf twoRows), happened-exactly, fresh-is twoRows (same-tail exactly-made) refl)
   where
-    oneRow : List Row
-    oneRow = row 100 (syn 1 443) FreshContact (pos 1) None (stateOf (0 ∷ 0 ∷ 0 ∷ 0 ∷ 0 ∷ 0 ∷ 0 ∷ 0 ∷ 64 ∷ 0 ∷ 0 ∷ 0 ∷ 0 ∷ 0 ∷ 0 ∷ 0 ∷ []) (0xFCE676E6 ∷ 0 ∷ 0 ∷ 0 ∷ []) (pos 1 ∷ minus 32768 ∷ minus 32768 ∷ minus 32768 ∷ []) 100) ∷ []
-
-    happened-exactly : happened gateway exactly ≡ judgedAt 100 (syn 1 80) (Judged Blocked (pos 1) None) ∷ happened gateway (callsOf oneRow)
+    happened-exactly : happened gateway exactly ≡ judgedAt 100 (syn 1 11211) (Judged Blocked (pos 2) None) ∷ happened gateway (callsOf twoRows)
     happened-exactly =
         happened-is exactlyRows exactly-made
-        ∙ ap (λ (h : List Event). judgedAt 100 (syn 1 80) (Judged Blocked (pos 1) None) ∷ h) (sym (happened-is oneRow (same-tail exactly-made)))
+        ∙ ap (λ (h : List Event). judgedAt 100 (syn 1 11211) (Judged Blocked (pos 2) None) ∷ h) (sym (happened-is twoRows (same-tail exactly-made)))

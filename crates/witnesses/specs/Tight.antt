@@ -1,4 +1,4 @@
--- Two runs of one small gateway: T is 1, 16 records, one line of four entries, keys all zero. In the first a machine gets all that demand 3
+-- Two runs of one small gateway: T is 2, 16 records, one line of four entries, keys all zero. In the first a machine gets all that demand 3
 -- allows, with each of D, H and R above 0, and not one more; in the second it is blocked after exactly T.
 -- Assumes nothing.
 use mathlib.Core.List.{List, [], _∷_}
@@ -14,46 +14,51 @@ use Rattle.promises.specs.Demand3.{Gateway}
 abbrev pub gateway : Gateway
 gateway =
     record {
-      settings = record { threshold = 1; floor = minus 20; dmiss = 60; dconn = 10; keys = replicate 8 0 };
+      settings = record { threshold = 2; floor = minus 20; dmiss = 60; dconn = 10; keys = replicate 8 0 };
       cell = 10 ∷ 0 ∷ 0 ∷ 0 ∷ 8 ∷ [];
       plant = 192 ∷ 168 ∷ 0 ∷ 0 ∷ 16 ∷ [];
       lent = stateOf (replicate 16 0) (replicate 4 0) (replicate 4 (pos 0)) 0;
       start = 100;
     }
 
--- a TCP packet between 10.0.0.machine, port 40000, and a port of 192.168.0.1: a SYN to the plant, and its SYN+ACK back
+-- a TCP packet between 10.0.0.number, port 40000, and a port of 192.168.0.1: a SYN to the plant, and its SYN+ACK back
 abbrev pub syn : ℕ → ℕ → List ℕ
-syn machine port =
-    0x45 ∷ 0 ∷ 0 ∷ 40 ∷ 0 ∷ 0 ∷ 0 ∷ 0 ∷ 64 ∷ 6 ∷ 0 ∷ 0 ∷ 10 ∷ 0 ∷ 0 ∷ machine ∷ 192 ∷ 168 ∷ 0 ∷ 1 ∷
+syn number port =
+    0x45 ∷ 0 ∷ 0 ∷ 40 ∷ 0 ∷ 0 ∷ 0 ∷ 0 ∷ 64 ∷ 6 ∷ 0 ∷ 0 ∷ 10 ∷ 0 ∷ 0 ∷ number ∷ 192 ∷ 168 ∷ 0 ∷ 1 ∷
     0x9C ∷ 0x40 ∷ port / 256 ∷ port % 256 ∷ 0 ∷ 0 ∷ 0 ∷ 0 ∷ 0 ∷ 0 ∷ 0 ∷ 0 ∷ 0x50 ∷ 2 ∷ 0 ∷ 0 ∷ 0 ∷ 0 ∷ 0 ∷ 0 ∷ []
 
 abbrev pub synAckBack : ℕ → ℕ → List ℕ
-synAckBack machine port =
-    0x45 ∷ 0 ∷ 0 ∷ 40 ∷ 0 ∷ 0 ∷ 0 ∷ 0 ∷ 64 ∷ 6 ∷ 0 ∷ 0 ∷ 192 ∷ 168 ∷ 0 ∷ 1 ∷ 10 ∷ 0 ∷ 0 ∷ machine ∷
+synAckBack number port =
+    0x45 ∷ 0 ∷ 0 ∷ 40 ∷ 0 ∷ 0 ∷ 0 ∷ 0 ∷ 64 ∷ 6 ∷ 0 ∷ 0 ∷ 192 ∷ 168 ∷ 0 ∷ 1 ∷ 10 ∷ 0 ∷ 0 ∷ number ∷
     port / 256 ∷ port % 256 ∷ 0x9C ∷ 0x40 ∷ 0 ∷ 0 ∷ 0 ∷ 0 ∷ 0 ∷ 0 ∷ 0 ∷ 0 ∷ 0x50 ∷ 18 ∷ 0 ∷ 0 ∷ 0 ∷ 0 ∷ 0 ∷ 0 ∷ []
 
--- the machine of which demand 3 is asked
+-- the machine of which demand 3 is asked: 10.0.0.1
 abbrev pub machine : ℕ
 machine = 0x0A000001
 
 -- ---- all that is allowed (newest first, the verdicts beside)
 abbrev pub all : List Call
 all =
-    packetAt 120 (syn 1 3389) ∷  -- 6: it has had all
-    packetAt 120 (syn 1 23) ∷  -- 4: its count is forgotten (R)
-    packetAt 120 (syn 5 443) ∷  -- 4, and its entry is replaced
-    packetAt 120 (syn 4 443) ∷  -- 4
-    packetAt 120 (syn 3 443) ∷  -- 4
-    packetAt 120 (syn 2 443) ∷  -- 4
-    packetAt 120 (syn 1 22) ∷  -- 4: a multiple of Dmiss was passed (D)
-    packetAt 100 (syn 1 22) ∷  -- 6
-    packetAt 100 (syn 1 502) ∷  -- 4: and the second
-    packetAt 100 (syn 1 80) ∷  -- 4: the first that its credit of two allows (H)
-    packetAt 100 (synAckBack 1 443) ∷  -- 3: an answer earns two
-    packetAt 100 (syn 1 443) ∷ []  -- 4: the first stranger (T)
+    packetAt 120 (syn 1 2049) ∷  -- 6: it has had all
+    packetAt 120 (syn 1 2049) ∷  -- 4
+    packetAt 120 (syn 1 27017) ∷  -- 4: its count was forgotten (R)
+    packetAt 120 (syn 5 6379) ∷  -- 4, and 10.0.0.1 is named as replaced
+    packetAt 120 (syn 4 4840) ∷  -- 4
+    packetAt 120 (syn 4 6379) ∷  -- 4
+    packetAt 120 (syn 3 4840) ∷  -- 4
+    packetAt 120 (syn 3 6379) ∷  -- 4
+    packetAt 120 (syn 2 4840) ∷  -- 4
+    packetAt 120 (syn 2 6379) ∷  -- 4
+    packetAt 120 (syn 1 5432) ∷  -- 4: a multiple of Dmiss was passed (D)
+    packetAt 100 (syn 1 80) ∷  -- 4
+    packetAt 100 (syn 1 11211) ∷  -- 4: and two for the answer (H)
+    packetAt 100 (syn 1 4840) ∷  -- 4: one more of T
+    packetAt 100 (synAckBack 1 6379) ∷  -- 3: an answer earns two
+    packetAt 100 (syn 1 6379) ∷ []  -- 4: a fresh contact (T)
 
 -- ---- blocked after exactly T
 abbrev pub exactly : List Call
 exactly =
-    packetAt 100 (syn 1 80) ∷  -- 6
-    packetAt 100 (syn 1 443) ∷ []  -- 4
+    packetAt 100 (syn 1 11211) ∷  -- 6
+    packetAt 100 (syn 1 4840) ∷  -- 4
+    packetAt 100 (syn 1 6379) ∷ []  -- 4
