@@ -1,17 +1,16 @@
 -- Small histories, made by hand, and what document 01's section "Fresh, from history" says of each: F, H, R and D. A slot is here the plant
 -- address modulo 16, so that it can be seen; Dconn is 10, Dmiss 60, and the start is at second 100.
 -- Assumes nothing.
-use mathlib.Core.Bool.{Bool, true, false, cond}
+use mathlib.Core.Bool.{cond}
 use mathlib.Core.List.{List, [], _∷_}
 use mathlib.Core.Option.{none}
 use Prim.Native.Nat.{ℕ, _%_}
-use lib.IntN.{ℤ, pos}
+use lib.IntN.{pos}
 use lib.ListN.{replicate}
 use Rattle.laws.specs.Signed.{minus}
 use Rattle.settings.specs.declared.Settings.{Settings}
 use Rattle.verdicts.specs.declared.Verdict.{Verdict}
 use Rattle.verdicts.specs.declared.Verdict.the-variants.{Uncounted, CreditOfOne, CreditOfTwo, FreshContact, Blocked}
-use Rattle.rulings.specs.declared.answers.Replacement.{Replacement}
 use Rattle.rulings.specs.declared.answers.Replacement.the-variants.{None, Address}
 use Rattle.rulings.specs.declared.answers.Answer.the-variants.{Refused, NotOurs, Judged}
 use Rattle.rulings.specs.Rules.{Rules}
