@@ -50,11 +50,11 @@ all =
     packetAt 120 (syn 2 4840) ∷  -- 4
     packetAt 120 (syn 2 6379) ∷  -- 4
     packetAt 120 (syn 1 5432) ∷  -- 4: a multiple of Dmiss was passed (D)
-    packetAt 100 (syn 1 80) ∷  -- 4
-    packetAt 100 (syn 1 11211) ∷  -- 4: and two for the answer (H)
-    packetAt 100 (syn 1 4840) ∷  -- 4: one more of T
+    packetAt 100 (syn 1 80) ∷  -- 4: the second of T
+    packetAt 100 (syn 1 11211) ∷  -- 4: and another
+    packetAt 100 (syn 1 4840) ∷  -- 4: a contact that the answer earned (H)
     packetAt 100 (synAckBack 1 6379) ∷  -- 3: an answer earns two
-    packetAt 100 (syn 1 6379) ∷ []  -- 4: a fresh contact (T)
+    packetAt 100 (syn 1 6379) ∷ []  -- 4: the first of T
 
 -- ---- blocked after exactly T
 abbrev pub exactly : List Call
