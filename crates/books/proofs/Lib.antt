@@ -1,4 +1,5 @@
 -- What every call keeps true of slots and counts.
+pub mod Apart
 pub mod Account
 pub mod Slots
 pub mod Lawful

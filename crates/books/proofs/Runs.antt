@@ -52,6 +52,7 @@ use Rattle.gateway.specs.Calls.{State, After, orElse, unlessRefused, timeRefusa
 use Rattle.history.specs.Runs.{Site, Call, packetAt, timeAlone, Event, judgedAt, passedAt, stateAfter, eventOf, left, history}
 use Rattle.history.specs.Answered.{isFour, fours}
 use Rattle.history.specs.Fresh.{Ours, comesFromPlant, oursOf, cellAddress, creditOf, names, replacements, unlessRefusedBy, clockAfter, slotFor, forwardedOn, decays, credits, isFresh, freshContacts}
+use Rattle.books.proofs.Apart.{twice-not, not-some, same-head, same-tail, same-verdict, not-judged, not-ours, same-bytes, same-answer, not-passed, not-nil}
 use Rattle.books.proofs.Account.{Holds, at-start, recast, on-named, on-replaced, on-decay, holds-bound, holds-blocked}
 use Rattle.books.proofs.Slots.{isSix, Ruled, ruled, forwarded-record, dropped-record, heldBy, Kept, kept-start, kept-onward, kept-forwarded}
 use Rattle.books.proofs.Lawful.{Lawful}
@@ -64,34 +65,6 @@ reaches B c e = omega (arith, leZ-true (pos B) c e, one-part c)
 
 under : (B : ℕ) (c : ℤ) → 1 ≤ B → isBlocked B c ≡ false → up c < B
 under B c h e = omega (arith, leZ-false (pos B) c e, one-part c)
-
--- answers, events and lists of them, told apart
-same-verdict : {v w : Verdict} {c d : ℤ} {x y : Replacement} → answer.Judged v c x ≡ answer.Judged w d y → v ≡ w
-same-verdict e = cc
-
-not-judged : {n : ℕ} {v : Verdict} {c : ℤ} {x : Replacement} → answer.Refused n ≡ answer.Judged v c x → ⊥
-not-judged e = let z : _≡_ {A = ℕ} 0 1 = cc in omega arith
-
-not-ours : {v : Verdict} {c : ℤ} {x : Replacement} → answer.NotOurs ≡ answer.Judged v c x → ⊥
-not-ours e = let z : _≡_ {A = ℕ} 0 1 = cc in omega arith
-
-same-bytes : {t u : ℕ} {b c : List ℕ} {x y : Answer} → judgedAt t b x ≡ judgedAt u c y → b ≡ c
-same-bytes e = cc
-
-same-answer : {t u : ℕ} {b c : List ℕ} {x y : Answer} → judgedAt t b x ≡ judgedAt u c y → x ≡ y
-same-answer e = cc
-
-not-passed : {t u : ℕ} {b : List ℕ} {x : Answer} {y : Reply} → passedAt t y ≡ judgedAt u b x → ⊥
-not-passed e = let z : _≡_ {A = ℕ} 0 1 = cc in omega arith
-
-same-head : {x y : Event} {xs ys : List Event} → x ∷ xs ≡ y ∷ ys → x ≡ y
-same-head e = cc
-
-same-tail : {x y : Event} {xs ys : List Event} → x ∷ xs ≡ y ∷ ys → xs ≡ ys
-same-tail e = cc
-
-not-nil : {y : Event} {ys : List Event} → [] ≡ y ∷ ys → ⊥
-not-nil e = let z : _≡_ {A = ℕ} 0 1 = cc in omega arith
 
 -- a record that is 0 stays 0
 zero-ages : (d m : ℕ) → agedBy d m 0 ≡ 0
@@ -316,12 +289,8 @@ module _ (x : Setup) (start : State) where
     fresh-is : isFresh rules site held (s .clock) packet verdict h ≡ isFour verdict
     fresh-is =
         ap (λ (t : Bool). isForwarded verdict && (not (packet .fromPlant) && not t)) (sym (here .mark))
-        ∙ ap (λ (t : Bool). isForwarded verdict && (not (packet .fromPlant) && t)) (twice (isCold byte))
+        ∙ ap (λ (t : Bool). isForwarded verdict && (not (packet .fromPlant) && t)) (twice-not (isCold byte))
         ∙ ruled (packet .fromPlant) (isBlocked (r .threshold) count) (marksOf byte) (packet .header .transport .kind) .four
-      where
-        twice : (t : Bool) → not (not t) ≡ t
-        twice true = refl
-        twice false = refl
 
     -- ---- its cell address's books, and the others'
     abbrev BooksAfter : ℕ → Type 0
@@ -340,9 +309,6 @@ module _ (x : Setup) (start : State) where
     no-lower : NoLower count attempted
     no-lower = go (isUnmarked (marksOf byte))
       where
-        not-some : {d : ℤ} → none ≡ some d → ⊥
-        not-some e = let z : _≡_ {A = ℕ} 0 1 = cc in omega arith
-
         go : (t : Bool) → NoLower count (cond t (r .attempt (packet .header) count) none)
         go true d e = x .ok .attempt-up (packet .header) count d e
         go false d e = absurd (not-some e)

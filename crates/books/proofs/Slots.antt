@@ -22,6 +22,7 @@ use Rattle.verdicts.specs.declared.Verdict.the-variants.{Uncounted, CreditOfOne
 use Rattle.verdicts.specs.Verdicts.{isForwarded, isUdp, isOpening, isSynAck, isClosing, isCounted, fromThePlant, fromTheCell, fromBlockedCell, verdictOf, plantBegins, marksAfter, recordAfter}
 use Rattle.history.specs.Answered.{isFour}
 use Rattle.history.specs.Fresh.{Ours, Forwarded, closesFromPlant, isLive}
+use Rattle.books.proofs.Apart.{twice-not}
 
 -- ---- verdicts: 4 is the only one that forwards a cell packet on a record with neither mark
 abbrev pub isSix : Verdict → Bool
@@ -157,13 +158,9 @@ module _ (fromPlant blocked : Bool) (kind : Kind) (byte : ℕ) where
   forwarded-record f =
       rw f
       (subst (λ (x : Bool). Renewed (not (fromPlant && isClosing kind) || x) (recordBy fromPlant (plantSeen byte) (cellSeen byte) (isClosing kind) (isCounted verdict) byte))
-      (sym (twice (plantSeen byte || cellSeen byte)))
+      (sym (twice-not (plantSeen byte || cellSeen byte)))
       (renewed fromPlant (plantSeen byte) (cellSeen byte) (isClosing kind) (isCounted verdict) byte refl
       (λ e. ruled fromPlant blocked (marksOf byte) kind .four-counts (sym (ruled fromPlant blocked (marksOf byte) kind .four) ∙ and-yes f e))))
-    where
-      twice : (t : Bool) → not (not t) ≡ t
-      twice true = refl
-      twice false = refl
 
   pub dropped-record : isForwarded verdict ≡ false → recordAfter fromPlant kind verdict byte ≡ byte
   unfolding recordAfter

@@ -2,12 +2,11 @@
 -- Assumes nothing.
 use mathlib.Core.Bool.{Bool, true, false, not, _&&_, and-false}
 use mathlib.Core.List.{List, [], _∷_}
-use mathlib.Core.Option.{none, some}
 use mathlib.Core.Path.{_≡_, refl, sym, ap, subst, _∙_}
 use Prim.Native.Nat.{ℕ, zero, suc, _+_, _*_, _^_, _<_}
 use native.Mathlib.Omega.{arith}
 use lib.Dec.{leb}
-use lib.IntN.{ℤ, pos}
+use lib.IntN.{pos}
 use lib.ListN.{length, getD, replicate, length-replicate}
 use lib.Pow.{pow-pos}
 use Rattle.laws.specs.Signed.{minus}
@@ -33,6 +32,7 @@ use Rattle.gateway.specs.declared.Reply.the-variants.{Refused, Done}
 use Rattle.gateway.specs.Calls.{State, unlessRefused, coldState, started}
 use Rattle.history.specs.Runs.{Call, packetAt, timeAlone}
 use Rattle.history.specs.Fresh.{oursOf, nothingHeld}
+use Rattle.books.proofs.Apart.{not-some}
 use Rattle.books.proofs.Lawful.{Lawful}
 use Rattle.books.proofs.Runs.{Setup, held, countIn, Sound, Good, AllFit}
 use Rattle.promises.specs.Demand3.{Gateway, EachBelow, StartsCold, OfBytes, site, first}
@@ -55,9 +55,6 @@ address-fits false bytes e =
     omega (arith, at-below 256 (omega arith) bytes 12 e, at-below 256 (omega arith) bytes 13 e, at-below 256 (omega arith) bytes 14 e, at-below 256 (omega arith) bytes 15 e)
 
 -- ---- document 01's rules are lawful for settings in range
-not-some : {d : ℤ} → none ≡ some d → ⊥
-not-some e = let z : _≡_ {A = ℕ} 0 1 = cc in omega arith
-
 pub document01-lawful : (settings : Settings) → InRange settings → Lawful (document01 settings) 1 (settings .threshold)
 document01-lawful settings r =
     let t = le-in (r .threshold .low) in

@@ -1,10 +1,11 @@
 -- What the gateway remembers of connections is what happened.
 -- Assumes nothing.
-use mathlib.Core.Bool.{Bool, true, false, not}
+use mathlib.Core.Bool.{Bool, false, not}
 use mathlib.Core.List.{List, _∷_}
-use mathlib.Core.Path.{_≡_, refl, sym, ap, _∙_}
+use mathlib.Core.Path.{_≡_, sym, ap, _∙_}
 use Prim.Native.Nat.{ℕ, _<_}
 use lib.ListN.{getD}
+use borrow.Author.Tests.{not-true}
 use Rattle.records.specs.Records.{isCold, ageOf}
 use Rattle.tables.specs.Clock.{multiplesPassed}
 use Rattle.rulings.specs.Rules.{document01}
@@ -18,10 +19,6 @@ use Rattle.books.proofs.Runs.{run, answered}
 use Rattle.promises.specs.Demand3.{Gateway, StartsCold, OfBytes, site, first}
 use Rattle.promises.specs.Memory.{Memory}
 use Rattle.promises.proofs.Cold.{setup, cold-state, good-start-state, all-fit, so}
-
-not-false : (t : Bool) → not t ≡ true → t ≡ false
-not-false true e = sym e
-not-false false e = refl
 
 module _ (g : Gateway) (cold : StartsCold g) (calls : List Call) (bytes : OfBytes calls) where
   abbrev byteAt : State → ℕ → ℕ
@@ -62,7 +59,7 @@ module _ (g : Gateway) (cold : StartsCold g) (calls : List Call) (bytes : OfByte
       record {
         marked-exactly-if-live = λ slot l. (
           λ e. live-is (g .settings .dconn) _ _ .0 (sym (marked slot l) ∙ ap not e),
-          λ w. not-false _ (marked slot l ∙ live-is (g .settings .dconn) _ _ .1 w),
+          λ w. not-true _ (marked slot l ∙ live-is (g .settings .dconn) _ _ .1 w),
         );
         age-is = λ slot l. so g cold (Aged slot) (λ c last earlier e.
             kept slot l .old c

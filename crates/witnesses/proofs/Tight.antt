@@ -41,6 +41,7 @@ use Rattle.gateway.specs.Packets.{ours, byDirection}
 use Rattle.gateway.specs.Calls.{State, stateOf, After, started, judged}
 use Rattle.history.specs.Runs.{Call, packetAt, Event, judgedAt, stateAfter, eventOf, left, history}
 use Rattle.history.specs.Answered.{fours}
+use Rattle.books.proofs.Apart.{same-head, same-tail}
 use Rattle.promises.specs.Demand3.{EachBelow, StartsCold, OfBytes, site, first, happened, F, D, H, R, most, least}
 use Rattle.promises.proofs.Memory.{memory}
 use Rattle.witnesses.specs.Tight.{gateway, syn, synAckBack, machine, all, exactly}
@@ -213,12 +214,6 @@ exactly-made =
     (and-then (rw (permuted .plant, permuted .plant-and-1, permuted .slot-1-6379, permuted .machine-1) refl) refl))
 
 -- ---- so the runs are these
-same-head : {x y : After Answer} {xs ys : List (After Answer)} → x ∷ xs ≡ y ∷ ys → x ≡ y
-same-head e = cc
-
-same-tail : {x y : After Answer} {xs ys : List (After Answer)} → x ∷ xs ≡ y ∷ ys → xs ≡ ys
-same-tail e = cc
-
 abbrev cold : State
 cold = stateBefore []
 
