@@ -124,6 +124,15 @@ impl Gateway {
         Gateway { settings, sides, clock: time, slots, lines }
     }
 
+    /// "and also by a call with a time alone".
+    pub fn time(&mut self, time: u32) -> Result<(), Refusal> {
+        if time < self.clock {
+            return Err(Refusal::TimeBeforeClock);
+        }
+        self.clock = time;
+        Ok(())
+    }
+
     /// A packet at a time, from the first byte of its IP header on.
     pub fn packet(&mut self, time: u32, given: &[u8]) -> Result<Answer, Refusal> {
         // Refusal 4: "the time is before the gateway's clock".

@@ -1,26 +1,15 @@
 //! The printing program: "It reads a capture on standard input" and prints a line for each record.
 #![forbid(unsafe_code)]
 
-mod capture;
-mod cipher;
-mod gateway;
-mod header;
-mod refusal;
-#[cfg(test)]
-mod samples;
-mod sides;
-
 use std::io::{self, BufWriter, Read, Write};
 use std::net::Ipv4Addr;
 use std::process::ExitCode;
 
-use capture::{Capture, Record};
-use gateway::{Answer, Gateway, Settings};
-use refusal::Refusal;
-use sides::Sides;
+use second::capture::{Capture, Record};
+use second::gateway::{Answer, Gateway, Settings};
+use second::refusal::Refusal;
+use second::sides::Sides;
 
-/// "cell 10.0.0.0/8, plant 192.168.0.0/16,"
-const SIDES: Sides = Sides { cell: &[(0x0A00_0000, 8)], plant: &[(0xC0A8_0000, 16)] };
 /// "a cold table of 4,096 records and 256 lines."
 const RECORDS: usize = 4096;
 const LINES: usize = 256;
@@ -69,7 +58,7 @@ fn print_records(mut capture: Capture, out: &mut impl Write) -> io::Result<(u64,
         read_whole += 1;
         // "starts cold at the first record's second, with factory settings"
         let gateway = gateway.get_or_insert_with(|| {
-            Gateway::cold_start(Settings::FACTORY, SIDES, RECORDS, LINES, record.second)
+            Gateway::cold_start(Settings::FACTORY, Sides::PROGRAM, RECORDS, LINES, record.second)
         });
         match judge_frame(gateway, &record) {
             Ok(answer) => print_answer(read_whole, answer, out)?,
@@ -111,7 +100,7 @@ fn print_refusal(number: u64, refusal: Refusal, out: &mut impl Write) -> io::Res
 #[cfg(test)]
 mod tests {
     use super::*;
-    use crate::samples::{capture, ethernet, ip, tcp, udp};
+    use second::samples::{capture, ethernet, ip, tcp, udp};
 
     const CELL: u32 = 0x0A00_0001;
     const PLANT: u32 = 0xC0A8_0001;
@@ -183,7 +172,7 @@ mod tests {
     #[test]
     fn a_full_line_prints_the_replaced_address() {
         // The first five cell addresses with the line of 10.0.0.0.
-        let line = |address| cipher::line(&[0; 8], address, LINES);
+        let line = |address| second::cipher::line(&[0; 8], address, LINES);
         let same = |address: &u32| line(*address) == line(0x0A00_0000);
         let cells: Vec<u32> = (0x0A00_0000..0x0B00_0000).filter(same).take(5).collect();
         let records: Vec<_> = cells.iter().map(|c| (0, ethernet(&udp(*c, PLANT)))).collect();

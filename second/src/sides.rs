@@ -20,6 +20,9 @@ fn holds((prefix, length): Entry, address: u32) -> bool {
 }
 
 impl Sides {
+    /// The printing program's: "cell 10.0.0.0/8, plant 192.168.0.0/16,"
+    pub const PROGRAM: Sides = Sides { cell: &[(0x0A00_0000, 8)], plant: &[(0xC0A8_0000, 16)] };
+
     /// "An address belongs to the list with the longest prefix that holds it; at equal length the
     /// cell list wins".
     pub fn side_of(&self, address: u32) -> Option<Side> {
@@ -42,7 +45,7 @@ mod tests {
 
     #[test]
     fn the_edges_of_the_program_s_sides() {
-        let sides = crate::SIDES;
+        let sides = Sides::PROGRAM;
         assert_eq!(sides.side_of(0x09FF_FFFF), None);
         assert_eq!(sides.side_of(0x0A00_0000), Some(Side::Cell));
         assert_eq!(sides.side_of(0x0AFF_FFFF), Some(Side::Cell));

@@ -14,6 +14,7 @@ const RECORD_HEADER: usize = 16;
 const MOST_CAPTURED: usize = 2048;
 
 // Where the next record starts among the bytes at hand, and the capture's byte order.
+#[repr(C)]
 pub struct Cursor {
     pub at: usize,
     pub big_endian: bool,
@@ -27,6 +28,7 @@ pub enum Opened {
 
 // A record: its second and microsecond, how many bytes were captured of how many, and where these stand: from a place up to another,
 // where the next record starts.
+#[repr(C)]
 pub struct Record {
     pub seconds: u32,
     pub microseconds: u32,

@@ -11,6 +11,22 @@ use Rattle.counts.proofs.is_blocked.Reads as counts-is-blocked
 use Rattle.counts.proofs.is_empty.Reads as counts-is-empty
 use Rattle.counts.proofs.lowered.Reads as counts-lowered
 use Rattle.counts.proofs.raised.Reads as counts-raised
+use Rattle.embed.proofs.plain.of_answer.Reads as embed-plain-of-answer
+use Rattle.embed.proofs.plain.of_opened.Reads as embed-plain-of-opened
+use Rattle.embed.proofs.plain.of_reading.Reads as embed-plain-of-reading
+use Rattle.embed.proofs.plain.of_reply.Reads as embed-plain-of-reply
+use Rattle.embed.proofs.plain.of_winning.Reads as embed-plain-of-winning
+use Rattle.embed.proofs.spritgrommet_cold_start.Reads as embed-spritgrommet-cold-start
+use Rattle.embed.proofs.spritgrommet_decrypt.Reads as embed-spritgrommet-decrypt
+use Rattle.embed.proofs.spritgrommet_encrypt.Reads as embed-spritgrommet-encrypt
+use Rattle.embed.proofs.spritgrommet_factory.Reads as embed-spritgrommet-factory
+use Rattle.embed.proofs.spritgrommet_judge.Reads as embed-spritgrommet-judge
+use Rattle.embed.proofs.spritgrommet_judge_frame.Reads as embed-spritgrommet-judge-frame
+use Rattle.embed.proofs.spritgrommet_next.Reads as embed-spritgrommet-next
+use Rattle.embed.proofs.spritgrommet_open.Reads as embed-spritgrommet-open
+use Rattle.embed.proofs.spritgrommet_pass.Reads as embed-spritgrommet-pass
+use Rattle.embed.proofs.spritgrommet_tally.Reads as embed-spritgrommet-tally
+use Rattle.embed.proofs.spritgrommet_winner.Reads as embed-spritgrommet-winner
 use Rattle.endings.proofs.one_more.Reads as endings-one-more
 use Rattle.endings.proofs.put_ending.Reads as endings-put-ending
 use Rattle.endings.proofs.put_refused_header.Reads as endings-put-refused-header
@@ -52,6 +68,7 @@ use Rattle.sides.proofs.best_in.Reads as sides-best-in
 use Rattle.sides.proofs.direction_of.Reads as sides-direction-of
 use Rattle.sides.proofs.side_of.Reads as sides-side-of
 use Rattle.sides.proofs.winner.Reads as sides-winner
+use Rattle.sides.proofs.winning_entry.Reads as sides-winning-entry
 use Rattle.streams.proofs.shift.Reads as streams-shift
 use Rattle.streams.proofs.within.Reads as streams-within
 use Rattle.streams.specs.Streams.{heldOf}
@@ -62,6 +79,7 @@ use Rattle.tables.specs.Clock.{timedOf}
 use Rattle.tables.specs.Tables.{tablesOf}
 use Rattle.tally.proofs.Tally.empty.Reads as tally-tally-empty
 use Rattle.tally.proofs.Tally.with.Reads as tally-tally-with
+use Rattle.tally.proofs.Tally.with_verdict.Reads as tally-tally-with-verdict
 use Rattle.verdicts.proofs.number.Reads as verdicts-number
 use Rattle.verdicts.proofs.record_after.Reads as verdicts-record-after
 use Rattle.verdicts.proofs.verdict_of.Reads as verdicts-verdict-of
@@ -124,6 +142,9 @@ sides-winner-one-part κs a x y s t p q = same (p .0) (q .0)
 
 pub sides-winner-one-place : (κs : _) (a : _) → One (sides-winner.Learnt κs a) (λ x s. x .ptr)
 sides-winner-one-place κs a x y s t p q = same (p .1) (q .1)
+
+pub sides-winning-entry-one : (κs : _) (a : _) → One (sides-winning-entry.Learnt κs a) (λ x s. x)
+sides-winning-entry-one κs a x y s t p q = same p q
 
 pub sides-side-of-one : (κs : _) (a : _) → One (sides-side-of.Learnt κs a) (λ x s. x)
 sides-side-of-one κs a x y s t p q = same p q
@@ -233,6 +254,9 @@ gateway-judge-one κs a x y s t p q = same p q
 pub tally-tally-empty-one : (κs : _) (a : _) → One (tally-tally-empty.Learnt κs a) (λ x s. x)
 tally-tally-empty-one κs a x y s t p q = same p q
 
+pub tally-tally-with-verdict-one : (κs : _) (a : _) → One (tally-tally-with-verdict.Learnt κs a) (λ x s. x)
+tally-tally-with-verdict-one κs a x y s t p q = same p q
+
 pub tally-tally-with-one : (κs : _) (a : _) → One (tally-tally-with.Learnt κs a) (λ x s. x)
 tally-tally-with-one κs a x y s t p q = same p q
 
@@ -263,3 +287,51 @@ streams-shift-one κs a x y s t p q = same p q
 
 pub streams-within-one : (κs : _) (a : _) → One (streams-within.Learnt κs a) (λ x s. x)
 streams-within-one κs a x y s t p q = same (p .1) (q .1)
+
+pub embed-spritgrommet-factory-one : (κs : _) (a : _) → One (embed-spritgrommet-factory.Learnt κs a) (λ x s. x)
+embed-spritgrommet-factory-one κs a x y s t p q = same p q
+
+pub embed-spritgrommet-cold-start-one : (κs : _) (a : _) → One (embed-spritgrommet-cold-start.Learnt κs a) (λ x s. afterOf x (now (s .1 .0)) (now (s .1 .1 .0)) (now (s .1 .1 .1 .0)) (now (s .1 .1 .1 .1 .0)))
+embed-spritgrommet-cold-start-one κs a x y s t p q = same p q
+
+pub embed-spritgrommet-pass-one : (κs : _) (a : _) → One (embed-spritgrommet-pass.Learnt κs a) (λ x s. afterOf x (now (s .1 .0)) (now (s .1 .1 .0)) (now (s .1 .1 .1 .0)) (now (s .1 .1 .1 .1 .0)))
+embed-spritgrommet-pass-one κs a x y s t p q = same p q
+
+pub embed-spritgrommet-judge-one : (κs : _) (a : _) → One (embed-spritgrommet-judge.Learnt κs a) (λ x s. afterOf x (now (s .1 .1 .1 .0)) (now (s .1 .1 .1 .1 .0)) (now (s .1 .1 .1 .1 .1 .0)) (now (s .1 .1 .1 .1 .1 .1 .0)))
+embed-spritgrommet-judge-one κs a x y s t p q = same p q
+
+pub embed-spritgrommet-judge-frame-one : (κs : _) (a : _) → One (embed-spritgrommet-judge-frame.Learnt κs a) (λ x s. afterOf x (now (s .1 .1 .1 .0)) (now (s .1 .1 .1 .1 .0)) (now (s .1 .1 .1 .1 .1 .0)) (now (s .1 .1 .1 .1 .1 .1 .0)))
+embed-spritgrommet-judge-frame-one κs a x y s t p q = same p q
+
+pub embed-spritgrommet-winner-one : (κs : _) (a : _) → One (embed-spritgrommet-winner.Learnt κs a) (λ x s. x)
+embed-spritgrommet-winner-one κs a x y s t p q = same p q
+
+pub embed-spritgrommet-encrypt-one : (κs : _) (a : _) → One (embed-spritgrommet-encrypt.Learnt κs a) (λ x s. x)
+embed-spritgrommet-encrypt-one κs a x y s t p q = same p q
+
+pub embed-spritgrommet-decrypt-one : (κs : _) (a : _) → One (embed-spritgrommet-decrypt.Learnt κs a) (λ x s. x)
+embed-spritgrommet-decrypt-one κs a x y s t p q = same p q
+
+pub embed-spritgrommet-tally-one : (κs : _) (a : _) → One (embed-spritgrommet-tally.Learnt κs a) (λ x s. now (s .0))
+embed-spritgrommet-tally-one κs a x y s t p q = same p q
+
+pub embed-spritgrommet-open-one : (κs : _) (a : _) → One (embed-spritgrommet-open.Learnt κs a) (λ x s. x)
+embed-spritgrommet-open-one κs a x y s t p q = same p q
+
+pub embed-spritgrommet-next-one : (κs : _) (a : _) → One (embed-spritgrommet-next.Learnt κs a) (λ x s. x)
+embed-spritgrommet-next-one κs a x y s t p q = same p q
+
+pub embed-plain-of-reply-one : (κs : _) (a : _) → One (embed-plain-of-reply.Learnt κs a) (λ x s. x)
+embed-plain-of-reply-one κs a x y s t p q = same p q
+
+pub embed-plain-of-answer-one : (κs : _) (a : _) → One (embed-plain-of-answer.Learnt κs a) (λ x s. x)
+embed-plain-of-answer-one κs a x y s t p q = same p q
+
+pub embed-plain-of-winning-one : (κs : _) (a : _) → One (embed-plain-of-winning.Learnt κs a) (λ x s. x)
+embed-plain-of-winning-one κs a x y s t p q = same p q
+
+pub embed-plain-of-opened-one : (κs : _) (a : _) → One (embed-plain-of-opened.Learnt κs a) (λ x s. x)
+embed-plain-of-opened-one κs a x y s t p q = same p q
+
+pub embed-plain-of-reading-one : (κs : _) (a : _) → One (embed-plain-of-reading.Learnt κs a) (λ x s. x)
+embed-plain-of-reading-one κs a x y s t p q = same p q

@@ -2,7 +2,9 @@
 ghost use mathlib.Core.Path.{_≡_};
 ghost use Rattle.settings.specs.Settings.{factorySettings, badSettings};
 
-// The type of each number is wider than its range, so that a value outside it can be given, and is refused.
+// The type of each number is wider than its range, so that a value outside it can be given, and is refused. Laid out as C does, for the
+// programs that link the gateway.
+#[repr(C)]
 pub struct Settings {
     // T: a cell address is blocked when its count is at least this.
     pub threshold: u16,

@@ -11,6 +11,7 @@ use Rattle.words.specs.Words.{fourAt}
 use Rattle.sides.specs.declared.Best.{Best}
 use Rattle.sides.specs.declared.Side.{Side}
 use Rattle.sides.specs.declared.Side.the-variants.{Cell, Plant, Neither}
+use Rattle.sides.specs.declared.Winning.{Winning}
 use Rattle.sides.specs.declared.Direction.{Direction}
 use Rattle.sides.specs.declared.Direction.the-variants.{FromCell, FromPlant, NotOurs}
 
@@ -79,6 +80,14 @@ winnerAt cell plant address =
     (past (cell .ptr) (5 * bestIn (cell .now) address .number - 5))
     (past (plant .ptr) (5 * bestIn (plant .now) address .number - 5))
     (past (cell .ptr) 0)
+
+-- whose list the winning entry stands in, and its number there, from 1, with 0 where neither list holds the address
+abbrev pub winningOf : List ℕ → List ℕ → ℕ → Winning
+winningOf cell plant address =
+    decided (bestIn cell address) (bestIn plant address)
+    (record { side = Cell; number = bestIn cell address .number })
+    (record { side = Plant; number = bestIn plant address .number })
+    (record { side = Neither; number = 0 })
 
 -- "A packet is ours when one end is cell and the other plant."
 abbrev pub directionOf : Side → Side → Direction

@@ -3,7 +3,7 @@
 ghost use mathlib.Core.Path.{_≡_};
 ghost use Prim.Native.Nat.{_+_, _*_, _-_, _<_, _≤_};
 ghost use lib.ListN.{length};
-ghost use Rattle.sides.specs.Lists.{badList, rankAt, bestIn, entryOf, past, winnerOf, winnerAt, sideOf, directionOf};
+ghost use Rattle.sides.specs.Lists.{badList, rankAt, bestIn, entryOf, past, winnerOf, winnerAt, winningOf, sideOf, directionOf};
 
 pub enum Side {
     Cell,
@@ -23,6 +23,12 @@ pub enum Direction {
 pub struct Best {
     pub number: usize,
     pub rank: u8,
+}
+
+// Where the winning entry of an address stands: the side whose list has it, and its number there, from 1.
+pub struct Winning {
+    pub side: Side,
+    pub number: usize,
 }
 
 // Refusal 3: whether a side list is not of whole entries, has over 64 of them, or a prefix length over 32.
@@ -102,6 +108,30 @@ pub fn winner<'a>(cell: &'a [u8], plant: &'a [u8], address: u32) -> &'a [u8]
         return entry(cell, of_cell.number);
     }
     &cell[0..0]
+}
+
+// The winning entry by its place: whose list held it, and its number there, from 1; 0 where neither holds the address.
+pub fn winning_entry(cell: &[u8], plant: &[u8], address: u32) -> Winning
+    ensures { λ r. ⌜ r ≡ winningOf (now (cell .entry)) (now (plant .entry)) address ⌝ }
+{
+    let in_cell = best_in(cell, address);
+    let in_plant = best_in(plant, address);
+    if in_cell.rank < in_plant.rank {
+        return Winning {
+            side: Side::Plant,
+            number: in_plant.number,
+        };
+    }
+    if 0 < in_cell.rank {
+        return Winning {
+            side: Side::Cell,
+            number: in_cell.number,
+        };
+    }
+    Winning {
+        side: Side::Neither,
+        number: 0,
+    }
 }
 
 // The side that an address belongs to.

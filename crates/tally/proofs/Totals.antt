@@ -3,8 +3,9 @@
 use mathlib.Core.Logic.{_≢_}
 use mathlib.Core.Option.{some}
 use mathlib.Core.Path.{_≡_, refl}
-use Prim.Native.Nat.{ℕ, _<_}
+use Prim.Native.Nat.{ℕ, _<_, _≤_}
 use native.Mathlib.Omega.{arith}
+use borrow.Author.Tests.{le-leb, lt-leb}
 use lib.ListN.{length, getD}
 use lib.Seq.{getD-set-same, getD-set-other}
 use Rattle.verdicts.specs.declared.Verdict.{Verdict}
@@ -13,7 +14,7 @@ use Rattle.rulings.specs.declared.answers.Answer.the-variants.{Refused}
 use Rattle.rulings.specs.Answers.{verdictTold}
 use Rattle.verdicts.specs.Verdicts.{numberOf}
 use Rattle.tally.specs.declared.Tally.{Tally}
-use Rattle.tally.specs.Tally.{oneMore, tallied}
+use Rattle.tally.specs.Tally.{oneMore, tallied, verdictNumbered}
 
 -- every verdict has a total
 pub has-total : (v : Verdict) → numberOf v < 7
@@ -23,6 +24,20 @@ has-total CreditOfTwo = omega arith
 has-total FreshContact = omega arith
 has-total Hygiene = omega arith
 has-total Blocked = omega arith
+
+-- so a verdict's number is that verdict, and a number over 6 is none
+pub is-numbered : (v : Verdict) → verdictNumbered (numberOf v) ≡ some (numberOf v)
+unfolding verdictNumbered
+is-numbered v = rw (le-leb (numberOf v) 6 (omega (arith, has-total v)))
+
+module _ (t : Tally) (n : ℕ) where
+  pub one-of-seven : n ≤ 6 → tallied t (verdictNumbered n) ≡ tallied t (some n)
+  unfolding verdictNumbered
+  one-of-seven h = rw (le-leb n 6 h)
+
+  pub beyond-seven : 6 < n → tallied t (verdictNumbered n) ≡ t
+  unfolding verdictNumbered tallied
+  beyond-seven h = rw (lt-leb n 6 h)
 
 -- a refusal adds nothing
 pub refusal-adds-nothing : (t : Tally) (n : ℕ) → tallied t (verdictTold (Refused n)) ≡ t

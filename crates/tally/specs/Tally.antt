@@ -1,8 +1,10 @@
 -- Document 01's tally, and what a verdict adds to it.
 -- Assumes nothing.
+use mathlib.Core.Bool.{cond}
 use mathlib.Core.List.{[], _∷_}
 use mathlib.Core.Option.{Option, none, some}
 use Prim.Native.Nat.{ℕ, _+_, min}
+use lib.Dec.{leb}
 use lib.ListN.{getD, set}
 use Rattle.tally.specs.declared.Tally.{Tally}
 
@@ -13,6 +15,10 @@ emptyTally = record { totals = 0 ∷ 0 ∷ 0 ∷ 0 ∷ 0 ∷ 0 ∷ 0 ∷ [] }
 -- "stopping at 4,294,967,295"
 abbrev pub oneMore : ℕ → ℕ
 oneMore n = min (n + 1) 4294967295
+
+-- "one .. total per verdict": the verdicts are 0 to 6, and a higher number is none
+unfoldable pub verdictNumbered : ℕ → Option ℕ
+verdictNumbered number = cond (leb number 6) (some number) none
 
 -- "The tally is a record that the caller lends to be added to": a verdict adds one to its own total, and a refusal, which has no
 -- verdict, adds nothing

@@ -1,9 +1,7 @@
 // The tally of verdicts: by value, and one thin function over a tally that the caller lends.
 ghost use mathlib.Core.Path.{_≡_};
-ghost use mathlib.Core.Option.{some};
-ghost use Prim.Native.Nat.{_<_};
 ghost use Rattle.rulings.specs.Answers.{verdictTold};
-ghost use Rattle.tally.specs.Tally.{emptyTally, oneMore, tallied};
+ghost use Rattle.tally.specs.Tally.{emptyTally, oneMore, tallied, verdictNumbered};
 use rulings::answers::Answer;
 
 // A total for each verdict, 0 to 6, by its number.
@@ -26,11 +24,13 @@ impl Tally {
         Tally { totals: [0; 7] }
     }
 
-    // The tally with this verdict added, by its number.
-    fn with_verdict(self, number: u8) -> Tally
-        requires { ⌜ number < 7 ⌝ }
-        ensures { λ r. ⌜ r ≡ tallied self (some number) ⌝ }
+    // The tally with this verdict added, by its number. A number that no verdict has adds nothing.
+    pub fn with_verdict(self, number: u8) -> Tally
+        ensures { λ r. ⌜ r ≡ tallied self (verdictNumbered number) ⌝ }
     {
+        if 6 < number {
+            return self;
+        }
         let at = number as usize;
         let mut tally = self;
         tally.totals[at] = one_more(tally.totals[at]);

@@ -9,7 +9,7 @@ const CELL_SEEN: Marks = Marks { plant_to_cell: false, cell_to_plant: true };
 const BOTH: Marks = Marks { plant_to_cell: true, cell_to_plant: true };
 
 fn started(settings: Settings, lines: usize, time: u32) -> Gateway {
-    Gateway::cold_start(settings, crate::SIDES, 4096, lines, time)
+    Gateway::cold_start(settings, crate::sides::Sides::PROGRAM, 4096, lines, time)
 }
 
 fn factory(time: u32) -> Gateway {

@@ -1,0 +1,2 @@
+-- What is proved of answers in plain numbers beyond the contracts.
+pub mod Numbers

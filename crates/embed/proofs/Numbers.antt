@@ -1,0 +1,85 @@
+-- Plain numbers keep all of an answer: there is a way back from them, and the tally takes from them the verdict that it takes from the
+-- answer. A refusal's number is never 0.
+-- Assumes nothing.
+use mathlib.Core.Bool.{cond}
+use mathlib.Core.List.{List}
+use mathlib.Core.Path.{_≡_, refl, ap}
+use Prim.Native.Nat.{ℕ, zero, suc}
+use lib.Dec.{eqb}
+use lib.IntN.{ℤ}
+use Rattle.verdicts.specs.declared.Verdict.{Verdict}
+use Rattle.verdicts.specs.declared.Verdict.the-variants.{Uncounted, CreditOfOne, CreditOfTwo, FreshContact, Hygiene, Blocked}
+use Rattle.rulings.specs.declared.answers.Replacement.{Replacement}
+use Rattle.rulings.specs.declared.answers.Replacement.the-variants.{None, Address}
+use Rattle.rulings.specs.declared.answers.Answer.{Answer}
+use Rattle.rulings.specs.declared.answers.Answer.the-variants.{Refused, NotOurs, Judged}
+use Rattle.rulings.specs.Answers.{verdictTold}
+use Rattle.tally.specs.Tally.{tallied, verdictNumbered}
+use Rattle.tally.proofs.Totals.{is-numbered}
+use Rattle.embed.specs.declared.plain.PlainAnswer.{PlainAnswer}
+use Rattle.embed.specs.Plain.{plainAnswer, byRefusal, verdictIn, totalsAfter}
+
+-- ---- the way back
+verdictBack : ℕ → Verdict
+verdictBack n =
+    cond (eqb n 2) CreditOfOne
+    (cond (eqb n 3) CreditOfTwo (cond (eqb n 4) FreshContact (cond (eqb n 5) Hygiene (cond (eqb n 6) Blocked Uncounted))))
+
+replacedBack : ℕ → ℕ → Replacement
+replacedBack zero address = None
+replacedBack (suc n) address = Address address
+
+judgedBack : ℕ → ℤ → Replacement → Answer
+judgedBack zero count replaced = NotOurs
+judgedBack (suc n) count replaced = Judged (verdictBack (suc n)) count replaced
+
+refusedBack : ℕ → Answer → Answer
+refusedBack zero other = other
+refusedBack (suc n) other = Refused (suc n)
+
+pub answerBack : PlainAnswer → Answer
+answerBack p = refusedBack (p .refusal) (judgedBack (p .verdict) (p .count) (replacedBack (p .replaced) (p .address)))
+
+judged-back : (v : Verdict) (c : ℤ) (replaced : Replacement) → answerBack (plainAnswer (Judged v c replaced)) ≡ Judged v c replaced
+unfolding answerBack refusedBack judgedBack verdictBack replacedBack
+judged-back Uncounted c None = refl
+judged-back Uncounted c (Address a) = refl
+judged-back CreditOfOne c None = refl
+judged-back CreditOfOne c (Address a) = refl
+judged-back CreditOfTwo c None = refl
+judged-back CreditOfTwo c (Address a) = refl
+judged-back FreshContact c None = refl
+judged-back FreshContact c (Address a) = refl
+judged-back Hygiene c None = refl
+judged-back Hygiene c (Address a) = refl
+judged-back Blocked c None = refl
+judged-back Blocked c (Address a) = refl
+
+-- so that two answers with the same numbers are one
+pub comes-back : (a : Answer) → (a ≡ Refused 0 → ⊥) → answerBack (plainAnswer a) ≡ a
+unfolding answerBack refusedBack judgedBack
+comes-back (Refused zero) not-zero = absurd (not-zero refl)
+comes-back (Refused (suc n)) not-zero = refl
+comes-back NotOurs not-zero = refl
+comes-back (Judged v c replaced) not-zero = judged-back v c replaced
+
+-- ---- what the tally takes
+judged-verdict : (v : Verdict) (c : ℤ) (replaced : Replacement) → verdictIn (plainAnswer (Judged v c replaced)) ≡ verdictTold (Judged v c replaced)
+judged-verdict v c None = is-numbered v
+judged-verdict v c (Address a) = is-numbered v
+
+pub same-verdict : (a : Answer) → (a ≡ Refused 0 → ⊥) → verdictIn (plainAnswer a) ≡ verdictTold a
+unfolding verdictNumbered
+same-verdict (Refused zero) not-zero = absurd (not-zero refl)
+same-verdict (Refused (suc n)) not-zero = refl
+same-verdict NotOurs not-zero = refl
+same-verdict (Judged v c replaced) not-zero = judged-verdict v c replaced
+
+module _ (totals : List ℕ) (verdict : ℕ) where
+  pub refused-adds-none : (refusal : ℕ) → (refusal ≡ 0 → ⊥) → totalsAfter totals (byRefusal refusal verdict) ≡ totals
+  unfolding tallied
+  refused-adds-none zero ne = absurd (ne refl)
+  refused-adds-none (suc n) ne = refl
+
+  pub told : (refusal : ℕ) → refusal ≡ 0 → byRefusal refusal verdict ≡ verdictNumbered verdict
+  told refusal e = ap (λ (n : ℕ). byRefusal n verdict) e

@@ -1,0 +1,2 @@
+-- What the library for C and Rust hands out.
+pub mod Plain

@@ -1,0 +1,158 @@
+// The gateway for programs in C and Rust: its calls over plain numbers and lent memory. include/spritgrommet.h says what each of them
+// does and answers. Nothing is decided here: each function hands on to the crate that does the work.
+ghost use mathlib.Core.Path.{_≡_};
+ghost use Rattle.rulings.specs.Rules.{document01};
+ghost use Rattle.settings.specs.Settings.{factorySettings};
+ghost use Rattle.permute.specs.Permutation.{E, D};
+ghost use Rattle.sides.specs.Lists.{winningOf};
+ghost use Rattle.capture.specs.Capture.{openedOf, nextOf};
+ghost use Rattle.gateway.specs.Calls.{afterOf, stateOf, refusalIn, started, passed, judged};
+ghost use Rattle.frames.specs.Frames.{frameJudged};
+ghost use Rattle.embed.specs.Plain.{plainly, plainAnswer, plainWinner, plainOpening, plainNext, verdictIn, totalsAfter};
+
+pub mod plain;
+
+use capture::Cursor;
+use plain::PlainAnswer;
+use plain::PlainNext;
+use plain::PlainOpening;
+use plain::PlainWinner;
+use settings::Settings;
+use tally::Tally;
+
+// The factory settings.
+#[no_mangle]
+pub extern "C" fn spritgrommet_factory() -> Settings
+    ensures { λ r. ⌜ r ≡ factorySettings ⌝ }
+{
+    Settings::factory()
+}
+
+// Starts cold at a time. The answer is the number of the refusal, or 0.
+#[no_mangle]
+pub extern "C" fn spritgrommet_cold_start(
+    set: Settings,
+    records: &mut [u8],
+    tags: &mut [u32],
+    counts: &mut [i16],
+    clock: &mut u32,
+    time: u32,
+) -> u8
+    ensures { λ r. ⌜ afterOf r (now (records .exit)) (now (tags .exit)) (now (counts .exit)) (now (clock .exit))
+        ≡ plainly refusalIn (started set time (stateOf (now (records .entry)) (now (tags .entry)) (now (counts .entry)) (now (clock .entry)))) ⌝ }
+{
+    plain::of_reply(gateway::cold_start(set, records, tags, counts, clock, time))
+}
+
+// Passes a time, with no packet. The answer is the number of the refusal, or 0.
+#[no_mangle]
+pub extern "C" fn spritgrommet_pass(
+    set: Settings,
+    records: &mut [u8],
+    tags: &mut [u32],
+    counts: &mut [i16],
+    clock: &mut u32,
+    time: u32,
+) -> u8
+    ensures { λ r. ⌜ afterOf r (now (records .exit)) (now (tags .exit)) (now (counts .exit)) (now (clock .exit))
+        ≡ plainly refusalIn (passed document01 set time
+        (stateOf (now (records .entry)) (now (tags .entry)) (now (counts .entry)) (now (clock .entry)))) ⌝ }
+{
+    let reply = gateway::pass(set, records, tags, counts, clock, time);
+    plain::of_reply(reply)
+}
+
+// Judges a packet, from its IPv4 header on, that comes at a time. The answer is the refusal, or the verdict with what belongs to it.
+#[no_mangle]
+pub extern "C" fn spritgrommet_judge(
+    set: Settings,
+    cell: &[u8],
+    plant: &[u8],
+    records: &mut [u8],
+    tags: &mut [u32],
+    counts: &mut [i16],
+    clock: &mut u32,
+    time: u32,
+    packet: &[u8],
+) -> PlainAnswer
+    ensures { λ r. ⌜ afterOf r (now (records .exit)) (now (tags .exit)) (now (counts .exit)) (now (clock .exit))
+        ≡ plainly plainAnswer (judged document01 set (now (cell .entry)) (now (plant .entry)) time (now (packet .entry))
+        (stateOf (now (records .entry)) (now (tags .entry)) (now (counts .entry)) (now (clock .entry)))) ⌝ }
+{
+    plain::of_answer(gateway::judge(set, cell, plant, records, tags, counts, clock, time, packet))
+}
+
+// Judges what an Ethernet frame that comes at a time carries. The answer is as for a packet.
+#[no_mangle]
+pub extern "C" fn spritgrommet_judge_frame(
+    set: Settings,
+    cell: &[u8],
+    plant: &[u8],
+    records: &mut [u8],
+    tags: &mut [u32],
+    counts: &mut [i16],
+    clock: &mut u32,
+    time: u32,
+    frame: &[u8],
+) -> PlainAnswer
+    ensures { λ r. ⌜ afterOf r (now (records .exit)) (now (tags .exit)) (now (counts .exit)) (now (clock .exit))
+        ≡ plainly plainAnswer (frameJudged document01 set (now (cell .entry)) (now (plant .entry)) time (now (frame .entry))
+        (stateOf (now (records .entry)) (now (tags .entry)) (now (counts .entry)) (now (clock .entry)))) ⌝ }
+{
+    plain::of_answer(frames::judge(set, cell, plant, records, tags, counts, clock, time, frame))
+}
+
+// The entry of the side lists that decides on an address: whose list has it, and its place there.
+#[no_mangle]
+pub extern "C" fn spritgrommet_winner(cell: &[u8], plant: &[u8], address: u32) -> PlainWinner
+    ensures { λ r. ⌜ r ≡ plainWinner (winningOf (now (cell .entry)) (now (plant .entry)) address) ⌝ }
+{
+    plain::of_winning(sides::winning_entry(cell, plant, address))
+}
+
+// The address permutation E of a word, under eight round keys.
+#[no_mangle]
+pub extern "C" fn spritgrommet_encrypt(keys: &[u32; 8], word: u32) -> u32
+    ensures { λ r. ⌜ r ≡ E (now (keys .entry)) word ⌝ }
+{
+    permute::encrypt(keys, word)
+}
+
+// The inverse of E, of a word, under the same keys.
+#[no_mangle]
+pub extern "C" fn spritgrommet_decrypt(keys: &[u32; 8], word: u32) -> u32
+    ensures { λ r. ⌜ r ≡ D (now (keys .entry)) word ⌝ }
+{
+    permute::decrypt(keys, word)
+}
+
+// Adds an answer's verdict to the seven totals that are lent. A refusal adds nothing.
+#[no_mangle]
+pub extern "C" fn spritgrommet_tally(totals: &mut [u32; 7], answer: PlainAnswer)
+    ensures { λ _. ⌜ now (totals .exit) ≡ totalsAfter (now (totals .entry)) (verdictIn answer) ⌝ }
+{
+    if answer.refusal != 0 {
+        return;
+    }
+    let before = *totals;
+    let tally = Tally { totals: before };
+    let after = tally.with_verdict(answer.verdict);
+    let grown = after.totals;
+    *totals = grown;
+}
+
+// Reads a capture's header. The answer is refusal 7, or where the first record starts.
+#[no_mangle]
+pub extern "C" fn spritgrommet_open(bytes: &[u8]) -> PlainOpening
+    ensures { λ r. ⌜ r ≡ plainOpening (openedOf (now (bytes .entry))) ⌝ }
+{
+    plain::of_opened(capture::open(bytes))
+}
+
+// Reads the capture's record at a cursor. The answer is refusal 8, that no byte is left, or the record.
+#[no_mangle]
+pub extern "C" fn spritgrommet_next(bytes: &[u8], cursor: Cursor) -> PlainNext
+    ensures { λ r. ⌜ r ≡ plainNext (nextOf (now (bytes .entry)) cursor) ⌝ }
+{
+    plain::of_reading(capture::next(bytes, cursor))
+}

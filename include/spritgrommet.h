@@ -1,0 +1,179 @@
+/* The gateway for programs in C and C++: link target/staticlib/libembed.a, which `rt staticlib embed` proves and writes.
+ *
+ * A gateway stands between a cell, which may be infected, and the plant. It judges each packet, and stops a machine of the cell that
+ * keeps trying strangers. The caller owns all memory: settings, two side lists, the tables and the clock. A call that is refused changes
+ * none of it. Nothing is allocated, no state is kept between calls, and calls on different memory may run at the same time.
+ *
+ * What each call answers is proved for every input of the types below. What the prover cannot see is the caller's side of the boundary:
+ * each pointer has to lead to as many elements as the length beside it says, written ones may not overlap any other, and none is null
+ * (a length of 0 needs a pointer too, to anything).
+ *
+ * Refusals: 0 where the call is not refused, and else
+ *   1  a setting is outside its range
+ *   2  a table size isn't one that there may be, or the tag and count lists differ in length
+ *   3  a side list's length isn't a multiple of 5, it has over 64 entries, or a prefix length is over 32
+ *   4  the time is before the gateway's clock
+ *   5  the header bytes end too soon
+ *   6  the IP version isn't 4, header length below 5 words, or total length below header length
+ *   7  capture header: short, magic not a1b2c3d4 in either byte order, version not 2.4, or link type not 1
+ *   8  capture record cut off, or over 2,048 captured bytes
+ * A call tests in rising number those for which it has an input; of a packet 5 and 6 come last, as its header is read.
+ */
+#ifndef SPRITGROMMET_H
+#define SPRITGROMMET_H
+
+#include <stdbool.h>
+#include <stddef.h>
+#include <stdint.h>
+
+#ifdef __cplusplus
+extern "C" {
+#endif
+
+/* The settings. `spritgrommet_factory` has the factory's. */
+struct spritgrommet_settings {
+    uint16_t threshold; /* T, 1 to 255: an address is blocked when its count is at least this */
+    int16_t floor;      /* Cmin, -1,000 to 0: no credit lowers a count below this */
+    uint16_t dmiss;     /* Dmiss, 1 to 3,600 seconds: at each multiple every positive count falls by one */
+    uint8_t dconn;      /* Dconn, 1 to 62 minutes: a connection record lives over so many minute boundaries */
+    uint32_t keys[8];   /* the round keys of the address permutation: any, and secret */
+};
+
+/* A side list: entries of five bytes, an address, most significant byte first, then a prefix length. Up to 64 entries. */
+struct spritgrommet_list {
+    const uint8_t *bytes;
+    size_t length; /* in bytes */
+};
+
+/* A gateway: all that a call works on. Where it starts cold, what the tables and the clock held before does not matter. */
+struct spritgrommet {
+    struct spritgrommet_settings settings;
+    struct spritgrommet_list cell;  /* outside: may be infected */
+    struct spritgrommet_list plant; /* inside: to be protected */
+    uint8_t *records;               /* connection table: a power of two of one-byte records, 16 to 1,048,576 */
+    size_t record_count;
+    uint32_t *tags;  /* address table: 1 to 262,144 lines, a power of two, four entries each: their tags, */
+    int16_t *counts; /* and their counts */
+    size_t entry_count; /* four times the number of lines */
+    uint32_t clock;     /* whole seconds */
+};
+
+/* The answer to a packet. A number that it does not have is 0. */
+struct spritgrommet_answer {
+    uint8_t refusal;  /* 0, or the number of the refusal, and then there is nothing else */
+    uint8_t verdict;  /* 0 not ours. 1 forwarded, nothing counted. 2 forwarded, credit of one. 3 forwarded, credit of two.
+                         4 forwarded, fresh contact. 5 dropped, hygiene. 6 dropped, blocked. */
+    int16_t count;    /* the cell address's count after it; verdict 0 has none */
+    uint8_t replaced; /* 1 where an address lost its entry to this packet's */
+    uint32_t address; /* that address */
+};
+
+/* The entry of the side lists that decides on an address. */
+struct spritgrommet_winner {
+    uint8_t side;  /* 1: it stands in the cell list. 2: in the plant list. 0: neither holds the address. */
+    size_t number; /* which entry of that list, from 1; 0 where neither holds the address */
+};
+
+/* Where the next record of a capture starts, and the capture's byte order. */
+struct spritgrommet_cursor {
+    size_t at;
+    bool big_endian;
+};
+
+/* A record of a capture. The frame's bytes stand from `from` up to `end`, where the next record starts. */
+struct spritgrommet_record {
+    uint32_t seconds;
+    uint32_t microseconds;
+    size_t captured;
+    uint32_t original;
+    size_t from;
+    size_t end;
+};
+
+struct spritgrommet_opening {
+    uint8_t refusal; /* 0 or 7 */
+    struct spritgrommet_cursor cursor;
+};
+
+struct spritgrommet_next {
+    uint8_t refusal; /* 0, or 8 where a record is cut off or too long */
+    uint8_t whole;   /* 1 where there is a record, 0 where no byte is left or it is refused */
+    struct spritgrommet_record record;
+};
+
+/* ---- the functions of the archive, over plain numbers and lent memory ---- */
+
+struct spritgrommet_settings spritgrommet_factory(void);
+
+uint8_t spritgrommet_cold_start(struct spritgrommet_settings settings, uint8_t *records, size_t record_count, uint32_t *tags,
+                                size_t tag_count, int16_t *counts, size_t count_count, uint32_t *clock, uint32_t time);
+
+uint8_t spritgrommet_pass(struct spritgrommet_settings settings, uint8_t *records, size_t record_count, uint32_t *tags, size_t tag_count,
+                          int16_t *counts, size_t count_count, uint32_t *clock, uint32_t time);
+
+struct spritgrommet_answer spritgrommet_judge(struct spritgrommet_settings settings, const uint8_t *cell, size_t cell_length,
+                                              const uint8_t *plant, size_t plant_length, uint8_t *records, size_t record_count,
+                                              uint32_t *tags, size_t tag_count, int16_t *counts, size_t count_count, uint32_t *clock,
+                                              uint32_t time, const uint8_t *packet, size_t packet_length);
+
+struct spritgrommet_answer spritgrommet_judge_frame(struct spritgrommet_settings settings, const uint8_t *cell, size_t cell_length,
+                                                    const uint8_t *plant, size_t plant_length, uint8_t *records, size_t record_count,
+                                                    uint32_t *tags, size_t tag_count, int16_t *counts, size_t count_count,
+                                                    uint32_t *clock, uint32_t time, const uint8_t *frame, size_t frame_length);
+
+/* Which entry of the side lists decides on an address: the longest prefix that holds it; at equal length the cell list wins; inside a
+ * list the first such entry. Lists that number 3 refuses are read as far as they have whole entries with prefix lengths up to 32. */
+struct spritgrommet_winner spritgrommet_winner(const uint8_t *cell, size_t cell_length, const uint8_t *plant, size_t plant_length,
+                                               uint32_t address);
+
+/* The address permutation E under eight round keys, and its inverse. They undo each other on every word. */
+uint32_t spritgrommet_encrypt(const uint32_t keys[8], uint32_t word);
+uint32_t spritgrommet_decrypt(const uint32_t keys[8], uint32_t word);
+
+/* Adds an answer's verdict to seven totals, one for each verdict, that stop at 4,294,967,295. A refusal adds nothing. */
+void spritgrommet_tally(uint32_t totals[7], struct spritgrommet_answer answer);
+
+/* Reads the header of a capture that lies in memory, and then its records in turn: where one was read, the next starts at its `end`. */
+struct spritgrommet_opening spritgrommet_open(const uint8_t *bytes, size_t length);
+struct spritgrommet_next spritgrommet_next(const uint8_t *bytes, size_t length, struct spritgrommet_cursor cursor);
+
+/* ---- the same, over a gateway ---- */
+
+/* Starts cold: 0 to every record and tag, -32,768 to every count, and the clock at the time. Answers 0, 1 or 2. */
+static inline uint8_t spritgrommet_start(struct spritgrommet *gateway, uint32_t time)
+{
+    return spritgrommet_cold_start(gateway->settings, gateway->records, gateway->record_count, gateway->tags, gateway->entry_count,
+                                   gateway->counts, gateway->entry_count, &gateway->clock, time);
+}
+
+/* Passes a time, with no packet: records age and counts fall as the clock says. Answers 0, 1, 2 or 4. */
+static inline uint8_t spritgrommet_time(struct spritgrommet *gateway, uint32_t time)
+{
+    return spritgrommet_pass(gateway->settings, gateway->records, gateway->record_count, gateway->tags, gateway->entry_count,
+                             gateway->counts, gateway->entry_count, &gateway->clock, time);
+}
+
+/* Judges a packet, from its IPv4 header on, that comes at a time. Forward it where the answer has no refusal and a verdict below 5. */
+static inline struct spritgrommet_answer spritgrommet_packet(struct spritgrommet *gateway, uint32_t time, const uint8_t *packet,
+                                                             size_t length)
+{
+    return spritgrommet_judge(gateway->settings, gateway->cell.bytes, gateway->cell.length, gateway->plant.bytes, gateway->plant.length,
+                              gateway->records, gateway->record_count, gateway->tags, gateway->entry_count, gateway->counts,
+                              gateway->entry_count, &gateway->clock, time, packet, length);
+}
+
+/* The same for an Ethernet frame. One under 14 bytes is refused by 5, and an EtherType other than 0x0800 gets verdict 0; neither reaches
+ * the gateway, whose clock stays, and for these two nothing else is tested. */
+static inline struct spritgrommet_answer spritgrommet_frame(struct spritgrommet *gateway, uint32_t time, const uint8_t *frame,
+                                                            size_t length)
+{
+    return spritgrommet_judge_frame(gateway->settings, gateway->cell.bytes, gateway->cell.length, gateway->plant.bytes,
+                                    gateway->plant.length, gateway->records, gateway->record_count, gateway->tags, gateway->entry_count,
+                                    gateway->counts, gateway->entry_count, &gateway->clock, time, frame, length);
+}
+
+#ifdef __cplusplus
+}
+#endif
+
+#endif

@@ -1,0 +1,260 @@
+//! The proved gateway, for programs in Rust: a safe wrapper over the archive that `rt staticlib embed` writes. Nothing is decided here;
+//! include/spritgrommet.h says what each call does in document 01's words.
+
+mod capture;
+mod raw;
+
+pub use capture::{Capture, Record};
+
+/// The settings. Their ranges are those of document 01; a gateway with a setting outside its range is refused by 1.
+#[repr(C)]
+#[derive(Clone, Copy, Debug, PartialEq, Eq)]
+pub struct Settings {
+    /// T: a cell address is blocked when its count is at least this.
+    pub threshold: u16,
+    /// Cmin: no credit lowers a count below this.
+    pub floor: i16,
+    /// Dmiss: at each multiple of so many seconds every positive count falls by one.
+    pub dmiss: u16,
+    /// Dconn: a connection record lives over so many minute boundaries.
+    pub dconn: u8,
+    /// The round keys of the address permutation.
+    pub keys: [u32; 8],
+}
+
+impl Settings {
+    /// The factory settings.
+    pub fn factory() -> Settings {
+        // SAFETY: the function takes nothing and hands out a value.
+        unsafe { raw::spritgrommet_factory() }
+    }
+}
+
+/// The number of a refusal, 1 to 8.
+#[derive(Clone, Copy, Debug, PartialEq, Eq)]
+pub struct Refusal(pub u8);
+
+/// The verdicts, by their words in document 01.
+#[derive(Clone, Copy, Debug, PartialEq, Eq)]
+pub enum Verdict {
+    NotOurs = 0,
+    Uncounted = 1,
+    CreditOfOne = 2,
+    CreditOfTwo = 3,
+    FreshContact = 4,
+    Hygiene = 5,
+    Blocked = 6,
+}
+
+impl Verdict {
+    const ALL: [Verdict; 7] = [
+        Verdict::NotOurs,
+        Verdict::Uncounted,
+        Verdict::CreditOfOne,
+        Verdict::CreditOfTwo,
+        Verdict::FreshContact,
+        Verdict::Hygiene,
+        Verdict::Blocked,
+    ];
+
+    /// Whether the packet is to be forwarded.
+    pub fn is_forwarded(self) -> bool {
+        !matches!(self, Verdict::Hygiene | Verdict::Blocked)
+    }
+}
+
+/// The answer to a packet: its verdict, the cell address's count after it, and the address that lost its entry to this packet's.
+#[derive(Clone, Copy, Debug, PartialEq, Eq)]
+pub struct Answer {
+    pub verdict: Verdict,
+    /// None for verdict 0.
+    pub count: Option<i16>,
+    pub replaced: Option<u32>,
+}
+
+fn unless_refused(refusal: u8) -> Result<(), Refusal> {
+    if refusal == 0 {
+        Ok(())
+    } else {
+        Err(Refusal(refusal))
+    }
+}
+
+fn answer_of(plain: raw::PlainAnswer) -> Result<Answer, Refusal> {
+    unless_refused(plain.refusal)?;
+    let verdict = Verdict::ALL[usize::from(plain.verdict)];
+    let count = (verdict != Verdict::NotOurs).then_some(plain.count);
+    let replaced = (plain.replaced == 1).then_some(plain.address);
+    Ok(Answer { verdict, count, replaced })
+}
+
+/// Adds an answer's verdict to seven totals, one for each verdict, that stop at 4,294,967,295. A refusal adds nothing.
+pub fn tally(totals: &mut [u32; 7], answer: &Result<Answer, Refusal>) {
+    let (refusal, verdict) = match answer {
+        Ok(answer) => (0, answer.verdict as u8),
+        Err(Refusal(number)) => (*number, 0),
+    };
+    let plain = raw::PlainAnswer { refusal, verdict, count: 0, replaced: 0, address: 0 };
+    // SAFETY: the pointer leads to seven totals, lent for writing.
+    unsafe { raw::spritgrommet_tally(totals.as_mut_ptr(), plain) }
+}
+
+/// The address permutation E of a word.
+pub fn encrypt(keys: &[u32; 8], word: u32) -> u32 {
+    // SAFETY: the pointer leads to eight keys.
+    unsafe { raw::spritgrommet_encrypt(keys.as_ptr(), word) }
+}
+
+/// The inverse of E.
+pub fn decrypt(keys: &[u32; 8], word: u32) -> u32 {
+    // SAFETY: as for `encrypt`.
+    unsafe { raw::spritgrommet_decrypt(keys.as_ptr(), word) }
+}
+
+/// Whose list has the entry that decides on an address.
+#[derive(Clone, Copy, Debug, PartialEq, Eq)]
+pub enum Side {
+    Cell,
+    Plant,
+}
+
+/// The entry of two side lists that decides on an address: whose list has it, and its number there, from 1.
+pub fn winner(cell: &[u8], plant: &[u8], address: u32) -> Option<(Side, usize)> {
+    // SAFETY: each pointer leads to as many bytes as the length beside it says.
+    let winner = unsafe { raw::spritgrommet_winner(cell.as_ptr(), cell.len(), plant.as_ptr(), plant.len(), address) };
+    match winner.side {
+        1 => Some((Side::Cell, winner.number)),
+        2 => Some((Side::Plant, winner.number)),
+        _ => None,
+    }
+}
+
+/// The largest tables that there may be. More is not asked of the allocator, and refused as no table at all is.
+const MOST_RECORDS: usize = 1_048_576;
+const MOST_LINES: usize = 262_144;
+
+/// A gateway that owns its tables.
+#[derive(Clone, Debug, PartialEq, Eq)]
+pub struct Gateway {
+    settings: Settings,
+    cell: Vec<u8>,
+    plant: Vec<u8>,
+    records: Vec<u8>,
+    tags: Vec<u32>,
+    counts: Vec<i16>,
+    clock: u32,
+}
+
+impl Gateway {
+    /// Starts cold at a time, with so many records and lines. Side lists have entries of five bytes: an address, most significant byte
+    /// first, then a prefix length. Refused by 1 and 2; a bad list is refused by 3 with each packet.
+    pub fn start(
+        settings: Settings,
+        cell: &[u8],
+        plant: &[u8],
+        records: usize,
+        lines: usize,
+        time: u32,
+    ) -> Result<Gateway, Refusal> {
+        let fits = records <= MOST_RECORDS && lines <= MOST_LINES;
+        let (records, entries) = if fits { (records, 4 * lines) } else { (0, 0) };
+        let mut gateway = Gateway {
+            settings,
+            cell: cell.to_vec(),
+            plant: plant.to_vec(),
+            records: vec![0; records],
+            tags: vec![0; entries],
+            counts: vec![0; entries],
+            clock: 0,
+        };
+        let Gateway { records, tags, counts, clock, .. } = &mut gateway;
+        // SAFETY: each pointer leads to as many elements as the length beside it says, and all are lent for writing.
+        let refusal = unsafe {
+            raw::spritgrommet_cold_start(
+                settings,
+                records.as_mut_ptr(),
+                records.len(),
+                tags.as_mut_ptr(),
+                tags.len(),
+                counts.as_mut_ptr(),
+                counts.len(),
+                clock,
+                time,
+            )
+        };
+        unless_refused(refusal).map(|()| gateway)
+    }
+
+    /// The time of the last call that was not refused.
+    pub fn clock(&self) -> u32 {
+        self.clock
+    }
+
+    /// Passes a time, with no packet. Refused by 4 where it is before the clock.
+    pub fn time(&mut self, time: u32) -> Result<(), Refusal> {
+        // SAFETY: as in `start`.
+        let refusal = unsafe {
+            raw::spritgrommet_pass(
+                self.settings,
+                self.records.as_mut_ptr(),
+                self.records.len(),
+                self.tags.as_mut_ptr(),
+                self.tags.len(),
+                self.counts.as_mut_ptr(),
+                self.counts.len(),
+                &mut self.clock,
+                time,
+            )
+        };
+        unless_refused(refusal)
+    }
+
+    /// Judges a packet, from its IPv4 header on, that comes at a time. Refused by 3 to 6.
+    pub fn packet(&mut self, time: u32, packet: &[u8]) -> Result<Answer, Refusal> {
+        // SAFETY: as in `start`; lists and packet are lent for reading, and overlap nothing that is written.
+        answer_of(unsafe {
+            raw::spritgrommet_judge(
+                self.settings,
+                self.cell.as_ptr(),
+                self.cell.len(),
+                self.plant.as_ptr(),
+                self.plant.len(),
+                self.records.as_mut_ptr(),
+                self.records.len(),
+                self.tags.as_mut_ptr(),
+                self.tags.len(),
+                self.counts.as_mut_ptr(),
+                self.counts.len(),
+                &mut self.clock,
+                time,
+                packet.as_ptr(),
+                packet.len(),
+            )
+        })
+    }
+
+    /// Judges what an Ethernet frame that comes at a time carries. One under 14 bytes is refused by 5, and an EtherType other than 0x0800
+    /// gets verdict 0; neither reaches the gateway.
+    pub fn frame(&mut self, time: u32, frame: &[u8]) -> Result<Answer, Refusal> {
+        // SAFETY: as for `packet`.
+        answer_of(unsafe {
+            raw::spritgrommet_judge_frame(
+                self.settings,
+                self.cell.as_ptr(),
+                self.cell.len(),
+                self.plant.as_ptr(),
+                self.plant.len(),
+                self.records.as_mut_ptr(),
+                self.records.len(),
+                self.tags.as_mut_ptr(),
+                self.tags.len(),
+                self.counts.as_mut_ptr(),
+                self.counts.len(),
+                &mut self.clock,
+                time,
+                frame.as_ptr(),
+                frame.len(),
+            )
+        })
+    }
+}

@@ -1,0 +1,124 @@
+//! The functions of the archive as they are, over plain numbers and lent memory: the one place where this crate is not safe Rust.
+//! include/spritgrommet.h says the same for C. A slice crosses as its start and its length.
+
+use crate::Settings;
+
+/// The answer to a packet. A number that it does not have is 0.
+#[repr(C)]
+#[derive(Clone, Copy)]
+pub struct PlainAnswer {
+    pub refusal: u8,
+    pub verdict: u8,
+    pub count: i16,
+    pub replaced: u8,
+    pub address: u32,
+}
+
+/// The winning entry: 1 for the cell list, 2 for the plant list, 0 for neither; and its number there, from 1.
+#[repr(C)]
+pub struct PlainWinner {
+    pub side: u8,
+    pub number: usize,
+}
+
+#[repr(C)]
+#[derive(Clone, Copy)]
+pub struct Cursor {
+    pub at: usize,
+    pub big_endian: bool,
+}
+
+#[repr(C)]
+pub struct PlainOpening {
+    pub refusal: u8,
+    pub cursor: Cursor,
+}
+
+#[repr(C)]
+pub struct PlainRecord {
+    pub seconds: u32,
+    pub microseconds: u32,
+    pub captured: usize,
+    pub original: u32,
+    pub from: usize,
+    pub end: usize,
+}
+
+#[repr(C)]
+pub struct PlainNext {
+    pub refusal: u8,
+    pub whole: u8,
+    pub read: PlainRecord,
+}
+
+extern "C" {
+    pub fn spritgrommet_factory() -> Settings;
+    pub fn spritgrommet_cold_start(
+        settings: Settings,
+        records: *mut u8,
+        record_count: usize,
+        tags: *mut u32,
+        tag_count: usize,
+        counts: *mut i16,
+        count_count: usize,
+        clock: *mut u32,
+        time: u32,
+    ) -> u8;
+    pub fn spritgrommet_pass(
+        settings: Settings,
+        records: *mut u8,
+        record_count: usize,
+        tags: *mut u32,
+        tag_count: usize,
+        counts: *mut i16,
+        count_count: usize,
+        clock: *mut u32,
+        time: u32,
+    ) -> u8;
+    pub fn spritgrommet_judge(
+        settings: Settings,
+        cell: *const u8,
+        cell_length: usize,
+        plant: *const u8,
+        plant_length: usize,
+        records: *mut u8,
+        record_count: usize,
+        tags: *mut u32,
+        tag_count: usize,
+        counts: *mut i16,
+        count_count: usize,
+        clock: *mut u32,
+        time: u32,
+        packet: *const u8,
+        packet_length: usize,
+    ) -> PlainAnswer;
+    pub fn spritgrommet_judge_frame(
+        settings: Settings,
+        cell: *const u8,
+        cell_length: usize,
+        plant: *const u8,
+        plant_length: usize,
+        records: *mut u8,
+        record_count: usize,
+        tags: *mut u32,
+        tag_count: usize,
+        counts: *mut i16,
+        count_count: usize,
+        clock: *mut u32,
+        time: u32,
+        frame: *const u8,
+        frame_length: usize,
+    ) -> PlainAnswer;
+    pub fn spritgrommet_winner(
+        cell: *const u8,
+        cell_length: usize,
+        plant: *const u8,
+        plant_length: usize,
+        address: u32,
+    ) -> PlainWinner;
+    pub fn spritgrommet_encrypt(keys: *const u32, word: u32) -> u32;
+    pub fn spritgrommet_decrypt(keys: *const u32, word: u32) -> u32;
+    pub fn spritgrommet_tally(totals: *mut u32, answer: PlainAnswer);
+    pub fn spritgrommet_open(bytes: *const u8, length: usize) -> PlainOpening;
+    pub fn spritgrommet_next(bytes: *const u8, length: usize, cursor: Cursor) -> PlainNext;
+}

@@ -1,0 +1,137 @@
+//! Each call of the wrapper by itself: refusals, the permutation, side lists, the tally and captures.
+
+use crate::random::Random;
+use second::samples;
+use spritgrommet::{decrypt, encrypt, tally, winner, Answer, Capture, Gateway, Refusal, Settings, Side, Verdict};
+
+const CELL: [u8; 5] = [10, 0, 0, 0, 8];
+const PLANT: [u8; 5] = [192, 168, 0, 0, 16];
+
+fn start(settings: Settings, records: usize, lines: usize) -> Result<Gateway, Refusal> {
+    Gateway::start(settings, &CELL, &PLANT, records, lines, 100)
+}
+
+#[test]
+fn factory_settings() {
+    let factory = Settings { threshold: 10, floor: -20, dmiss: 60, dconn: 10, keys: [0; 8] };
+    assert_eq!(Settings::factory(), factory);
+}
+
+#[test]
+fn refusals_of_a_start() {
+    let factory = Settings::factory();
+    assert_eq!(start(Settings { threshold: 0, ..factory }, 16, 1), Err(Refusal(1)));
+    assert_eq!(start(Settings { threshold: 256, ..factory }, 17, 1), Err(Refusal(1)));
+    assert_eq!(start(Settings { floor: 1, ..factory }, 16, 1), Err(Refusal(1)));
+    assert_eq!(start(Settings { dmiss: 3_601, ..factory }, 16, 1), Err(Refusal(1)));
+    assert_eq!(start(Settings { dconn: 63, ..factory }, 16, 1), Err(Refusal(1)));
+    for (records, lines) in [(0, 1), (8, 1), (17, 1), (2_097_152, 1), (16, 0), (16, 3), (16, 524_288), (usize::MAX, usize::MAX)]
+    {
+        assert_eq!(start(factory, records, lines), Err(Refusal(2)), "{records} records, {lines} lines");
+    }
+    // The largest tables that there may be.
+    assert!(start(factory, 1_048_576, 262_144).is_ok());
+}
+
+#[test]
+fn a_refused_call_changes_nothing() {
+    let mut gateway = start(Settings::factory(), 16, 1).expect("good settings and sizes");
+    let syn = samples::tcp((0x0A00_0001, 40_000), (0xC0A8_0001, 80), 2);
+    assert!(gateway.packet(100, &syn).is_ok());
+    let before = gateway.clone();
+    assert_eq!(gateway.time(99), Err(Refusal(4)));
+    assert_eq!(gateway.packet(99, &syn), Err(Refusal(4)));
+    assert_eq!(gateway.packet(200, &syn[..39]), Err(Refusal(5)));
+    let mut version_6 = syn.clone();
+    version_6[0] = 0x65;
+    assert_eq!(gateway.packet(200, &version_6), Err(Refusal(6)));
+    assert_eq!(gateway.frame(200, &[0; 13]), Err(Refusal(5)));
+    assert_eq!(gateway, before);
+    let mut bad_list = Gateway::start(Settings::factory(), &CELL, &PLANT[..4], 16, 1, 100).expect("lists are not looked at");
+    assert_eq!(bad_list.packet(99, &syn), Err(Refusal(3)));
+}
+
+/// Document 01's session, as frames; its four lines are 4 1, 3 -1, 1 -1 and 0.
+#[test]
+fn the_session() {
+    let mut gateway = start(Settings::factory(), 4_096, 256).expect("good settings and sizes");
+    let (cell, plant) = ((0x0A00_0001, 40_000), (0xC0A8_0001, 80));
+    let packets = [
+        samples::tcp(cell, plant, 2),
+        samples::tcp(plant, cell, 18),
+        samples::tcp(cell, plant, 16),
+        samples::udp(0x0A00_0001, 0x0A00_0002),
+    ];
+    let answer = |verdict, count| Ok(Answer { verdict, count, replaced: None });
+    let expected = [
+        answer(Verdict::FreshContact, Some(1)),
+        answer(Verdict::CreditOfTwo, Some(-1)),
+        answer(Verdict::Uncounted, Some(-1)),
+        answer(Verdict::NotOurs, None),
+    ];
+    for (packet, expected) in packets.iter().zip(expected) {
+        assert_eq!(gateway.frame(100, &samples::ethernet(packet)), expected);
+    }
+}
+
+/// Document 01's examples 1 to 4, and both ways on many words and keys.
+#[test]
+fn permutation() {
+    let zero = [0; 8];
+    let first = [1, 0, 0, 0, 0, 0, 0, 0];
+    assert_eq!(encrypt(&zero, 0), 0xFFFF_FFFF);
+    assert_eq!(encrypt(&zero, 0xFFFF_FFFF), 0x9999_9999);
+    assert_eq!(encrypt(&zero, 0x9999_9999), 0x7777_7777);
+    assert_eq!(encrypt(&first, 0xFFFF_FFFF), 0xFFFF_FFFF);
+    let random = &mut Random(1);
+    for _ in 0..100_000 {
+        let keys = std::array::from_fn(|_| random.word());
+        let word = random.word();
+        assert_eq!(encrypt(&keys, word), second::cipher::e(&keys, word));
+        assert_eq!(decrypt(&keys, encrypt(&keys, word)), word);
+        assert_eq!(encrypt(&keys, decrypt(&keys, word)), word);
+    }
+}
+
+#[test]
+fn side_lists() {
+    let cell = [10, 0, 0, 0, 8, 10, 1, 2, 3, 32, 11, 0, 0, 255, 24, 11, 0, 0, 0, 24];
+    let plant = [0, 0, 0, 0, 0, 10, 1, 2, 0, 24, 11, 0, 0, 0, 24];
+    assert_eq!(winner(&cell, &plant, 0x0A00_0001), Some((Side::Cell, 1)));
+    assert_eq!(winner(&cell, &plant, 0x0A01_0203), Some((Side::Cell, 2)));
+    assert_eq!(winner(&cell, &plant, 0x0A01_0204), Some((Side::Plant, 2)));
+    // Four entries of one length hold it: the cell list, and in it the first.
+    assert_eq!(winner(&cell, &plant, 0x0B00_0001), Some((Side::Cell, 3)));
+    assert_eq!(winner(&cell, &plant, 0xFFFF_FFFF), Some((Side::Plant, 1)));
+    assert_eq!(winner(&cell, &[], 0xFFFF_FFFF), None);
+}
+
+#[test]
+fn totals_stop() {
+    let mut totals = [u32::MAX, 0, 0, 0, 0, 0, u32::MAX - 1];
+    let blocked = Ok(Answer { verdict: Verdict::Blocked, count: Some(10), replaced: None });
+    tally(&mut totals, &blocked);
+    tally(&mut totals, &blocked);
+    tally(&mut totals, &Ok(Answer { verdict: Verdict::NotOurs, count: None, replaced: None }));
+    tally(&mut totals, &Err(Refusal(5)));
+    assert_eq!(totals, [u32::MAX, 0, 0, 0, 0, 0, u32::MAX]);
+}
+
+#[test]
+fn captures() {
+    let records = [(5, samples::ethernet(&[])), (6, vec![1, 2, 3]), (7, vec![])];
+    for little in [true, false] {
+        let bytes = samples::capture(little, &records);
+        let read: Vec<_> = Capture::open(&bytes).ok().expect("a good header").collect();
+        assert_eq!(read.len(), 3);
+        for (read, (seconds, frame)) in read.into_iter().zip(&records) {
+            let read = read.expect("whole records");
+            assert_eq!((read.seconds, read.microseconds), (*seconds, 999_999));
+            assert_eq!((read.original as usize, read.frame), (frame.len(), &frame[..]));
+        }
+        let cut: Vec<_> = Capture::open(&bytes[..bytes.len() - 1]).ok().expect("a good header").collect();
+        assert_eq!(cut.len(), 3);
+        assert_eq!(cut[2], Err(Refusal(8)));
+    }
+    assert_eq!(Capture::open(&[0; 24]).err(), Some(Refusal(7)));
+}

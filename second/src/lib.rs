@@ -1,0 +1,10 @@
+//! A second gateway, in plain Rust, written from document 01 alone. It shares nothing with the proved one, which it is held against.
+#![forbid(unsafe_code)]
+
+pub mod capture;
+pub mod cipher;
+pub mod gateway;
+pub mod header;
+pub mod refusal;
+pub mod samples;
+pub mod sides;
