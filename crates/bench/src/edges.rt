@@ -1,4 +1,5 @@
-// Every refusal of a packet at its edge: the last good value and the first bad one, with all else good.
+// Every refusal of a packet at its edge: the last good value and the first bad one, with all else good. The largest tables are not made
+// here: both edges of the sizes are computed in tables/proofs/Edges.
 use crate::lines;
 use crate::names::*;
 use crate::trials;
@@ -94,6 +95,7 @@ fn judge_headers() {
     judge_two(PROTOCOL, 17, TOTAL, 28);
 }
 
+// Prints the answer to a packet at both edges of every refusal that it can meet there: the last good value and the first bad one.
 pub fn run() {
     judge_settings();
     judge_lengths_and_times();

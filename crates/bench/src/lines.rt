@@ -4,19 +4,22 @@ use libc::STDOUT_FILENO;
 use rulings::answers::Answer;
 use rulings::answers::Replacement;
 
+// Prints words as they are.
 pub fn text(words: &[u8]) {
     io::write_all(STDOUT_FILENO, words);
 }
 
+// Prints one byte.
 pub fn mark(byte: u8) {
     io::write_all(STDOUT_FILENO, &[byte]);
 }
 
+// Prints a number in decimal.
 pub fn number(value: u64) {
     io::print_decimal(STDOUT_FILENO, value);
 }
 
-// -1 - value fits for every negative value, as -value does not.
+// Prints a number with its sign. -1 - value fits for every negative value, as -value does not.
 pub fn signed(value: i16) {
     if value < 0 {
         mark(b'-');
@@ -50,6 +53,7 @@ fn refusal(refused: u8) {
     number(refused as u64);
 }
 
+// Prints what a call without a packet answered: its refusal, or that it is done.
 pub fn reply(told: Reply) {
     match told {
         Reply::Refused(refused) => refusal(refused),
@@ -57,6 +61,7 @@ pub fn reply(told: Reply) {
     }
 }
 
+// Prints what a packet was answered: its refusal, or its verdict with the count and the replaced address.
 pub fn answer(told: Answer) {
     match told {
         Answer::Refused(refused) => refusal(refused),

@@ -44,7 +44,7 @@ pub const PASS: usize = 19;
 
 pub const START: usize = 20;
 
-// Each name has nine bytes, so that a number finds it.
+// Prints the name of an input by its number. Each name has nine bytes, so that a number finds it.
 pub fn print_name(number: usize) {
     let names: &[u8] =
         b"         T        Cmin     Dmiss    Dconn    records  tags     counts   cell     cell/    plant    plant/   time     bytes    version  words    total    protocol judge    pass     start    ";

@@ -27,6 +27,7 @@ fn with_word(packet: [u8; 40], word: usize, value: [u8; 4]) -> [u8; 40] {
     bytes
 }
 
+// A packet of forty bytes, an IPv4 header and a TCP one, from these parts; a UDP one has the same length.
 pub fn packet(protocol: u8, from: [u8; 4], to: [u8; 4], ports: [u8; 4], flags: u8) -> [u8; 40] {
     let mut bytes = [0u8; 40];
     bytes[0] = 0x45;

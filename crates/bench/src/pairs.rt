@@ -40,7 +40,7 @@ fn judge_with_faults() {
     judge(VERSION, 6, NONE, 0);
 }
 
-// A cold start at a time before the clock is not refused.
+// Prints what each call answers to every two inputs that are bad at once. A cold start at a time before the clock is not refused.
 pub fn run() {
     judge_with_faults();
     pass(NONE, 0, NONE, 0);

@@ -133,6 +133,7 @@ fn run_turns(from: u8, to: u8) {
     print_totals(totals);
 }
 
+// Prints document 01's session turn by turn, with the tally after it, and then the two-hour incident.
 pub fn run() {
     run_turns(1, 5);
     run_turns(5, 29);

@@ -59,7 +59,7 @@ fn bad_words(bytes: &[u8], big_endian: bool) -> bool
     (magic != MAGIC) | (((major != 2) | (minor != 4)) | (link != 1))
 }
 
-// Reads a capture's header.
+// Reads a capture's header. Answers refusal 7, or a cursor at the first record.
 pub fn open(bytes: &[u8]) -> Opened
     ensures { λ r. ⌜ r ≡ openedOf (now (bytes .entry)) ⌝ }
 {
@@ -93,7 +93,7 @@ fn head_at(bytes: &[u8], at: usize, big_endian: bool) -> Record
     }
 }
 
-// Reads the record that starts at the cursor.
+// Reads the record that starts at the cursor, and answers it. A place past the bytes at hand is their end.
 pub fn next(bytes: &[u8], cursor: Cursor) -> Reading
     ensures { λ r. ⌜ r ≡ nextOf (now (bytes .entry)) cursor ⌝ }
 {

@@ -38,7 +38,7 @@ fn empty_counts(counts: &mut [i16])
     }
 }
 
-// Fills all tables as a cold start does, whatever they held.
+// Fills all tables as a cold start does, whatever they held: 0 in every record and tag, -32,768 in every count.
 pub fn fill(records: &mut [u8], tags: &mut [u32], counts: &mut [i16])
     ensures { λ _. ⌜ tablesOf (now (records .exit)) (now (tags .exit)) (now (counts .exit))
         ≡ coldTables (tablesOf (now (records .entry)) (now (tags .entry)) (now (counts .entry))) ⌝ }

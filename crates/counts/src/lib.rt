@@ -4,14 +4,14 @@ ghost use mathlib.Core.List.{map};
 ghost use Prim.Native.Nat.{min};
 ghost use Rattle.counts.specs.Counts.{isEmpty, isBlocked, loweredBy, raisedBy, decayedBy};
 
-// Whether an entry with this count is empty.
+// Whether an entry with this count is empty: only -32,768 says so.
 pub fn is_empty(count: i16) -> bool
     ensures { λ r. ⌜ r ≡ isEmpty count ⌝ }
 {
     count == -32768
 }
 
-// Whether an address with this count is blocked.
+// Whether an address with this count is blocked: whether it is at least the threshold.
 pub fn is_blocked(count: i16, threshold: u16) -> bool
     ensures { λ r. ⌜ r ≡ isBlocked threshold count ⌝ }
 {
@@ -64,7 +64,7 @@ fn fallen(count: i16, steps: u16) -> i16
     (high - steps) as i16
 }
 
-// One count after a decay by so many points.
+// One count after a decay by so many points: a positive one falls, to 0 at the lowest, and any other stays.
 pub fn decayed(count: i16, points: u64) -> i16
     ensures { λ r. ⌜ r ≡ decayedBy points count ⌝ }
 {

@@ -78,7 +78,7 @@ fn of_judged(verdict: u8, count: i16, replaced: Replacement) -> PlainAnswer
     }
 }
 
-// An answer in plain numbers.
+// An answer in plain numbers; those that it does not have are 0.
 pub fn of_answer(answer: Answer) -> PlainAnswer
     ensures { λ r. ⌜ r ≡ plainAnswer answer ⌝ }
 {
@@ -116,7 +116,7 @@ fn side_number(side: Side) -> u8
     }
 }
 
-// The place of a winning entry in plain numbers.
+// The place of a winning entry in plain numbers: side 1 or 2 and the number there, or twice 0.
 pub fn of_winning(winning: Winning) -> PlainWinner
     ensures { λ r. ⌜ r ≡ plainWinner winning ⌝ }
 {
@@ -127,7 +127,7 @@ pub fn of_winning(winning: Winning) -> PlainWinner
     }
 }
 
-// What opening a capture answers, in plain numbers.
+// What opening a capture answers, in plain numbers: the refusal, or 0 and a cursor.
 pub fn of_opened(opened: Opened) -> PlainOpening
     ensures { λ r. ⌜ r ≡ plainOpening opened ⌝ }
 {

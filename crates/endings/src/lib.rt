@@ -4,14 +4,15 @@ ghost use Rattle.lines.specs.Room.{roomOf, put};
 ghost use Rattle.endings.specs.Endings.{oneMore, ending, headerRefused};
 use rulings::answers::Answer;
 
-// One more of what is counted in 64 bits.
+// One more of what is counted in 64 bits; after the largest number comes 0.
 pub fn one_more(number: u64) -> u64
     ensures { λ r. ⌜ r ≡ oneMore number ⌝ }
 {
     std::num::wrapping_add_u64(number, 1)
 }
 
-// Puts the lines for when no more bytes come: that of a record which is cut off, if one is, and the last line.
+// Puts the lines for when no more bytes come: that of a record which is cut off, if one is, and the last line. Answers the place after
+// them in the room.
 pub fn put_ending(room: &mut [u8], at: usize, records: u64, refusals: u64, is_cut: bool) -> usize
     ensures { λ r. ⌜ roomOf r (now (room .exit)) ≡ put (ending «is_cut» records refusals) (roomOf at (now (room .entry))) ⌝ }
 {
@@ -22,7 +23,7 @@ pub fn put_ending(room: &mut [u8], at: usize, records: u64, refusals: u64, is_cu
     lines::put_last_line(room, at, records, refusals)
 }
 
-// Puts all that is printed of a capture whose header is refused.
+// Puts all that is printed of a capture whose header is refused, and answers the place after it in the room.
 pub fn put_refused_header(room: &mut [u8], at: usize, number: u8) -> usize
     ensures { λ r. ⌜ roomOf r (now (room .exit)) ≡ put (headerRefused number) (roomOf at (now (room .entry))) ⌝ }
 {

@@ -108,7 +108,7 @@ fn lacks_line(tags: usize, counts: usize, line: u32) -> bool
     (tags < end) | (counts < end)
 }
 
-// The count of a tag in a line of the table.
+// The count of a tag in a line of the table: 0 where the tag has no entry there, or the table no such line.
 pub fn count_of(tags: &[u32], counts: &[i16], line: u32, tag: u32) -> i16
     ensures { λ r. ⌜ r ≡ countOf line tag (now (tags .entry)) (now (counts .entry)) ⌝ }
 {
@@ -133,7 +133,8 @@ fn write_entry(tags: &mut [u32], counts: &mut [i16], tag: u32, count: i16) -> Re
     room.replaced
 }
 
-// Writes a tag's entry in a line of the table. The other lines are out of the writer's reach.
+// Writes a tag's entry in a line of the table, and answers the tag that lost its entry, if one did. The other lines are out of the
+// writer's reach; where the table has no such line, nothing is written.
 pub fn write(tags: &mut [u32], counts: &mut [i16], line: u32, tag: u32, count: i16) -> Replaced
     ensures { λ r. ⌜ writtenOf r (now (tags .exit)) (now (counts .exit)) ≡ written line tag count (now (tags .entry)) (now (counts .entry)) ⌝ }
 {

@@ -7,7 +7,8 @@ ghost use Rattle.frames.specs.Frames.{frameJudged};
 use rulings::answers::Answer;
 use settings::Settings;
 
-// Judges the packet of a frame that comes at a time.
+// Judges the packet of a frame that comes at a time. Answers refusal 5 for a frame that is too short, verdict 0 for one that carries
+// something else than IPv4, and else what the gateway answers.
 pub fn judge(
     set: Settings,
     cell: &[u8],

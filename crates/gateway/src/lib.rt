@@ -30,7 +30,8 @@ pub enum Reply {
 // Counts are in points: each multiple of Dmiss that is passed takes one.
 const POINT: u8 = 1;
 
-// Starts cold: every record and tag 0, every count -32,768, and the clock at the time.
+// Starts cold: every record and tag 0, every count -32,768, and the clock at the time. Answers refusal 1 or 2, and then nothing is changed,
+// or that it is done.
 pub fn cold_start(
     set: Settings,
     records: &mut [u8],
@@ -51,7 +52,8 @@ pub fn cold_start(
     Reply::Done
 }
 
-// Passes a time, with no packet.
+// Passes a time, with no packet: records age, counts decay and the clock moves. Answers refusal 1, 2 or 4, and then nothing is changed, or
+// that it is done.
 pub fn pass(
     set: Settings,
     records: &mut [u8],
@@ -254,7 +256,8 @@ fn accept(
     judge_by_direction(set, header, direction, records, tags, counts)
 }
 
-// Judges a packet that comes at a time, and brings tables and clock up to it.
+// Judges a packet that comes at a time, and brings tables and clock up to it. Answers a refusal, 1 to 6, and then nothing is changed, or
+// the verdict with the count and the replaced address.
 pub fn judge(
     set: Settings,
     cell: &[u8],

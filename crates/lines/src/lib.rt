@@ -126,7 +126,7 @@ fn put_answer(room: &mut [u8], at: usize, answer: Answer) -> usize
     }
 }
 
-// Puts the line of a record, by its number and what was answered.
+// Puts the line of a record, by its number and what was answered. Answers the place after it in the room.
 pub fn put_line(room: &mut [u8], at: usize, number: u64, answer: Answer) -> usize
     ensures { λ r. ⌜ roomOf r (now (room .exit)) ≡ put (line number answer) (roomOf at (now (room .entry))) ⌝ }
 {
@@ -136,7 +136,7 @@ pub fn put_line(room: &mut [u8], at: usize, number: u64, answer: Answer) -> usiz
     put_byte(room, next, b'\n')
 }
 
-// Puts the last line: how many records were read whole, and how many refusals there were.
+// Puts the last line: how many records were read whole, and how many refusals there were. Answers the place after it in the room.
 pub fn put_last_line(room: &mut [u8], at: usize, records: u64, refusals: u64) -> usize
     ensures { λ r. ⌜ roomOf r (now (room .exit)) ≡ put (lastLine records refusals) (roomOf at (now (room .entry))) ⌝ }
 {

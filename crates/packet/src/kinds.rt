@@ -2,6 +2,7 @@
 ghost use mathlib.Core.Path.{_≡_};
 ghost use Rattle.packet.specs.Kinds.{flagNumber, tcpKind};
 
+// What a packet is, as far as verdicts look: UDP, a TCP packet that opens, answers or closes a connection, or any other.
 pub enum Kind {
     Udp,
     Opening,

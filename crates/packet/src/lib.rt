@@ -144,7 +144,7 @@ fn header_of(bytes: &[u8]) -> Header
     }
 }
 
-// Reads the headers of a packet, or refuses it.
+// Reads the headers of a packet, and answers what the gateway needs of them, or refusal 5 or 6.
 pub fn read(bytes: &[u8]) -> Reading
     ensures { λ r. ⌜ r ≡ readOf (now (bytes .entry)) ⌝ }
 {

@@ -108,14 +108,14 @@ fn backward(table: &[[u8; 16]; 8], keys: &[u32; 8], word: u32) -> u32
     y
 }
 
-// The permutation of a word, under eight round keys.
+// The permutation E of a word, under eight round keys.
 pub fn encrypt(keys: &[u32; 8], word: u32) -> u32
     ensures { λ r. ⌜ r ≡ E (now (keys .entry)) word ⌝ }
 {
     forward(&BOXES, keys, word)
 }
 
-// Its inverse.
+// The inverse of E: the word whose permutation under these keys is this one.
 pub fn decrypt(keys: &[u32; 8], word: u32) -> u32
     ensures { λ r. ⌜ r ≡ D (now (keys .entry)) word ⌝ }
 {

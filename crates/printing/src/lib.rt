@@ -123,6 +123,7 @@ fn can_go_on(progress: Progress, length: usize) -> bool
 
 // Prints the whole records of the bytes at hand, while there is room, in at most as many turns as there are bytes. Of one byte or more that
 // is enough: each record takes sixteen, and what is left of fewer takes the last turn. With no byte at hand nothing is done.
+// Answers how far it came.
 pub fn feed(
     bytes: &[u8],
     big_endian: bool,

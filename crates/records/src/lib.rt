@@ -10,7 +10,7 @@ pub struct Marks {
     pub cell: bool,
 }
 
-// The marks that a record has.
+// The marks that a record has: bit 7 is the plant's, bit 6 the cell's.
 pub fn marks_of(byte: u8) -> Marks
     ensures { λ r. ⌜ r ≡ marksOf byte ⌝ }
 {
@@ -59,7 +59,7 @@ fn older(byte: u8, steps: u8, oldest: u8) -> u8
     byte + steps
 }
 
-// One record after so many minute boundaries.
+// One record after so many minute boundaries: older by as many, or 0 where it is then over Dconn or was without a mark. By none, it stays.
 pub fn aged(byte: u8, minutes: u32, dconn: u8) -> u8
     ensures { λ r. ⌜ r ≡ agedBy dconn minutes byte ⌝ }
 {

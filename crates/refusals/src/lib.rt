@@ -23,7 +23,7 @@ fn first_of(bad_settings: bool, bad_sizes: bool, bad_lists: bool, too_early: boo
     0
 }
 
-// The refusal of a cold start.
+// The refusal of a cold start: 1, 2, or 0 for none.
 pub fn of_start(set: Settings, records: usize, tags: usize, counts: usize) -> u8
     ensures { λ r. ⌜ r ≡ startRefusal set records tags counts ⌝ }
 {
@@ -31,7 +31,7 @@ pub fn of_start(set: Settings, records: usize, tags: usize, counts: usize) -> u8
     first_of(set.is_bad(), bad_sizes, false, false)
 }
 
-// The refusal of a time alone.
+// The refusal of a time alone: 1, 2, 4, or 0 for none.
 pub fn of_time(
     set: Settings,
     records: usize,
@@ -46,7 +46,7 @@ pub fn of_time(
     first_of(set.is_bad(), bad_sizes, false, time < clock)
 }
 
-// The refusal of a packet before its headers are looked at.
+// The refusal of a packet before its headers are looked at: 1 to 4, or 0 for none.
 pub fn of_packet(
     set: Settings,
     records: usize,

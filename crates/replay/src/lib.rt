@@ -72,7 +72,8 @@ fn judge_record(
     )
 }
 
-// Reads the record at the cursor and, where it is whole, judges it; the first one starts the gateway.
+// Reads the record at the cursor and, where it is whole, judges it; the first one starts the gateway. Answers the record and its answer, or
+// why there is none.
 pub fn next(
     bytes: &[u8],
     cursor: Cursor,

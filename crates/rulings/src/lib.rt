@@ -56,7 +56,8 @@ fn count_after(verdict: Verdict, count: i16, floor: i16) -> Counted
     }
 }
 
-// All that a packet of ours gets, by the record and the count that it meets.
+// All that a packet of ours gets, by the record and the count that it meets: its verdict, its record after it, whether its cell address's
+// entry is written, and the count.
 pub fn ruling_of(set: Settings, header: Header, from_plant: bool, byte: u8, count: i16) -> Ruling
     ensures { λ r. ⌜ r ≡ rulingOf (document01 set) header «from_plant» byte count ⌝ }
 {

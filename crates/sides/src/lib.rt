@@ -5,6 +5,7 @@ ghost use Prim.Native.Nat.{_+_, _*_, _-_, _<_, _≤_};
 ghost use lib.ListN.{length};
 ghost use Rattle.sides.specs.Lists.{badList, rankAt, bestIn, entryOf, past, winnerOf, winnerAt, winningOf, sideOf, directionOf};
 
+// The side that an address belongs to: outside, inside, or neither list holds it.
 pub enum Side {
     Cell,
     Plant,
@@ -66,7 +67,7 @@ fn rank(list: &[u8], k: usize, address: u32) -> u8
     }
 }
 
-// The entry of a list that holds an address with the longest prefix, the first such.
+// The entry of a list that holds an address with the longest prefix, the first such: its number, from 1, and its rank; both 0 where none does.
 pub fn best_in(list: &[u8], address: u32) -> Best
     ensures { λ r. ⌜ r ≡ bestIn (now (list .entry)) address ⌝ }
 {
@@ -134,7 +135,7 @@ pub fn winning_entry(cell: &[u8], plant: &[u8], address: u32) -> Winning
     }
 }
 
-// The side that an address belongs to.
+// The side that an address belongs to: whose list has the winning entry, or neither.
 pub fn side_of(cell: &[u8], plant: &[u8], address: u32) -> Side
     ensures { λ r. ⌜ r ≡ sideOf (now (cell .entry)) (now (plant .entry)) address ⌝ }
 {
@@ -149,7 +150,7 @@ pub fn side_of(cell: &[u8], plant: &[u8], address: u32) -> Side
     Side::Neither
 }
 
-// The direction of a packet whose ends are on these sides.
+// The direction of a packet whose ends are on these sides: from the cell, from the plant, or not ours.
 pub fn direction_of(source: Side, destination: Side) -> Direction
     ensures { λ r. ⌜ r ≡ directionOf source destination ⌝ }
 {

@@ -6,7 +6,7 @@ ghost use Rattle.io.specs.Counts.{Counts};
 ghost use Rattle.streams.specs.Streams.{heldOf, shifted};
 use libc::STDIN_FILENO;
 
-// Moves the bytes from a place up to another to the buffer's front, and answers how many there are.
+// Moves the bytes from a place up to another to the buffer's front, and answers how many there are: none where the buffer has no such bytes.
 pub fn shift(buffer: &mut [u8], from: usize, end: usize) -> usize
     ensures { λ r. ⌜ heldOf r (now (buffer .exit)) ≡ shifted from end (now (buffer .entry)) ⌝ }
 {

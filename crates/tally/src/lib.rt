@@ -17,7 +17,7 @@ fn one_more(total: u32) -> u32
 }
 
 impl Tally {
-    // Nothing counted yet.
+    // The tally before the first answer: every total 0.
     pub fn empty() -> Tally
         ensures { λ r. ⌜ r ≡ emptyTally ⌝ }
     {
@@ -37,7 +37,7 @@ impl Tally {
         tally
     }
 
-    // The tally with an answer's verdict added. A refusal has none.
+    // The tally with an answer's verdict added to its total. A refusal has none, and adds nothing.
     pub fn with(self, answer: Answer) -> Tally
         ensures { λ r. ⌜ r ≡ tallied self (verdictTold answer) ⌝ }
     {
@@ -49,7 +49,7 @@ impl Tally {
     }
 }
 
-// Adds an answer's verdict to the tally that is lent.
+// Adds an answer's verdict to the tally that is lent. A refusal adds nothing.
 pub fn add(tally: &mut Tally, answer: Answer)
     ensures { λ _. ⌜ now (tally .exit) ≡ tallied (now (tally .entry)) (verdictTold answer) ⌝ }
 {

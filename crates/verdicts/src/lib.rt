@@ -21,7 +21,7 @@ pub enum Verdict {
     Blocked,
 }
 
-// Document 01's number of a verdict.
+// Document 01's number of a verdict, 1 to 6.
 pub fn number(verdict: Verdict) -> u8
     ensures { λ r. ⌜ r ≡ numberOf verdict ⌝ }
 {
@@ -158,7 +158,7 @@ fn from_blocked_cell(own: bool, other: bool, kind: Kind) -> Verdict
     Verdict::CreditOfOne
 }
 
-// The verdict on a packet of ours.
+// The verdict on a packet of ours, by its direction and kind, whether its cell address is blocked, and its record's marks.
 pub fn verdict_of(from_plant: bool, blocked: bool, marks: Marks, kind: Kind) -> Verdict
     ensures { λ r. ⌜ r ≡ verdictOf «from_plant» blocked marks kind ⌝ }
 {

@@ -32,7 +32,7 @@ pub fn two_in(bytes: &[u8], at: usize, big_endian: bool) -> u16
     of_two(bytes[at + 1], bytes[at])
 }
 
-// The number that the four bytes at a place make, in either byte order.
+// The number that the four bytes at a place make, the most significant first where big_endian, and else the least.
 pub fn four_in(bytes: &[u8], at: usize, big_endian: bool) -> u32
     ensures { λ r. ⌜ r ≡ whole 4 (fourIn «big_endian») (now (bytes .entry)) at ⌝ }
 {
