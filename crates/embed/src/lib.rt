@@ -13,10 +13,12 @@ ghost use Rattle.embed.specs.Plain.{plainly, plainAnswer, plainWinner, p
 pub mod plain;
 
 use capture::Cursor;
+use frames::Inside;
 use plain::PlainAnswer;
 use plain::PlainNext;
 use plain::PlainOpening;
 use plain::PlainWinner;
+use rulings::answers::Answer;
 use settings::Settings;
 use tally::Tally;
 
@@ -82,7 +84,8 @@ pub extern "C" fn spritgrommet_judge(
     plain::of_answer(gateway::judge(set, cell, plant, records, tags, counts, clock, time, packet))
 }
 
-// Judges what an Ethernet frame that comes at a time carries. The answer is as for a packet.
+// Judges what an Ethernet frame that comes at a time carries. The answer is as for a packet. It goes on to `spritgrommet_judge`, and not by
+// `frames::judge`, so that the archive has the judge once, in the function that is called for every packet.
 #[no_mangle]
 pub extern "C" fn spritgrommet_judge_frame(
     set: Settings,
@@ -99,7 +102,14 @@ pub extern "C" fn spritgrommet_judge_frame(
         ≡ plainly plainAnswer (frameJudged document01 set (now (cell .entry)) (now (plant .entry)) time (now (frame .entry))
         (stateOf (now (records .entry)) (now (tags .entry)) (now (counts .entry)) (now (clock .entry)))) ⌝ }
 {
-    plain::of_answer(frames::judge(set, cell, plant, records, tags, counts, clock, time, frame))
+    match frames::what_is_in(frame) {
+        Inside::Short => plain::of_answer(Answer::Refused(5)),
+        Inside::Packet => {
+            let packet = &frame[14..];
+            spritgrommet_judge(set, cell, plant, records, tags, counts, clock, time, packet)
+        }
+        Inside::Other => plain::of_answer(Answer::NotOurs),
+    }
 }
 
 // The entry of the side lists that decides on an address: whose list has it, and its place there.

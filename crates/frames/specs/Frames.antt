@@ -10,6 +10,8 @@ use Rattle.settings.specs.declared.Settings.{Settings}
 use Rattle.rulings.specs.declared.answers.Answer.{Answer}
 use Rattle.rulings.specs.declared.answers.Answer.the-variants.{Refused, NotOurs}
 use Rattle.rulings.specs.Rules.{Rules}
+use Rattle.frames.specs.declared.Inside.{Inside}
+use Rattle.frames.specs.declared.Inside.the-variants.{Short, Packet, Other}
 use Rattle.gateway.specs.Calls.{State, After, judged}
 
 -- the EtherType is the two bytes after the two addresses of six bytes each, and what the frame carries follows it
@@ -19,9 +21,16 @@ etherType frame = twoAt frame 12
 abbrev pub carried : List ℕ → List ℕ
 carried frame = drop 14 frame
 
+-- "An Ethernet frame under 14 bytes", "EtherType other than 0x0800", or neither
+unfoldable pub insideOf : List ℕ → Inside
+insideOf frame = cond (ltb (length frame) 14) Short (cond (eqb (etherType frame) 0x0800) Packet Other)
+
 -- "An Ethernet frame under 14 bytes is refused by 5; EtherType other than 0x0800 prints verdict 0"
+abbrev pub byInside : Inside → State → After Answer → After Answer
+byInside Short before after = record { answer = Refused 5; state = before }
+byInside Packet before after = after
+byInside Other before after = record { answer = NotOurs; state = before }
+
 unfoldable pub frameJudged : (Settings → Rules) → Settings → List ℕ → List ℕ → ℕ → List ℕ → State → After Answer
 frameJudged rules settings cell plant time frame before =
-    cond (ltb (length frame) 14) (record { answer = Refused 5; state = before })
-    (cond (eqb (etherType frame) 0x0800) (judged rules settings cell plant time (carried frame) before)
-    (record { answer = NotOurs; state = before }))
+    byInside (insideOf frame) before (judged rules settings cell plant time (carried frame) before)

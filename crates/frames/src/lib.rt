@@ -3,9 +3,29 @@
 ghost use mathlib.Core.Path.{_≡_};
 ghost use Rattle.rulings.specs.Rules.{document01};
 ghost use Rattle.gateway.specs.Calls.{afterOf, stateOf};
-ghost use Rattle.frames.specs.Frames.{frameJudged};
+ghost use Rattle.frames.specs.Frames.{insideOf, frameJudged};
 use rulings::answers::Answer;
 use settings::Settings;
+
+// What a frame holds: too few bytes for its own header, an IPv4 packet behind it, or something else.
+pub enum Inside {
+    Short,
+    Packet,
+    Other,
+}
+
+// What a frame holds, by its length and its EtherType. The packet, where there is one, begins at the frame's fifteenth byte.
+pub fn what_is_in(frame: &[u8]) -> Inside
+    ensures { λ r. ⌜ r ≡ insideOf (now (frame .entry)) ⌝ }
+{
+    if frame.len() < 14 {
+        return Inside::Short;
+    }
+    if words::two_at(frame, 12) == 0x0800 {
+        return Inside::Packet;
+    }
+    Inside::Other
+}
 
 // Judges the packet of a frame that comes at a time. Answers refusal 5 for a frame that is too short, verdict 0 for one that carries
 // something else than IPv4, and else what the gateway answers.
@@ -24,21 +44,12 @@ pub fn judge(
         ≡ frameJudged document01 set (now (cell .entry)) (now (plant .entry)) time (now (frame .entry))
         (stateOf (now (records .entry)) (now (tags .entry)) (now (counts .entry)) (now (clock .entry))) ⌝ }
 {
-    if frame.len() < 14 {
-        return Answer::Refused(5);
+    match what_is_in(frame) {
+        Inside::Short => Answer::Refused(5),
+        Inside::Packet => {
+            let packet = &frame[14..];
+            gateway::judge(set, cell, plant, records, tags, counts, clock, time, packet)
+        }
+        Inside::Other => Answer::NotOurs,
     }
-    if words::two_at(frame, 12) != 0x0800 {
-        return Answer::NotOurs;
-    }
-    gateway::judge(
-        set,
-        cell,
-        plant,
-        records,
-        tags,
-        counts,
-        clock,
-        time,
-        &frame[14..],
-    )
 }

@@ -15,6 +15,7 @@ use Rattle.packet.specs.declared.Reading.{Reading}
 use Rattle.packet.specs.declared.Reading.the-variants.{Refused as Unread, Packet}
 use Rattle.packet.specs.Header.{headerRefusal, headerOf, answered, readOf, refusalOf}
 use Rattle.sides.specs.declared.Direction.{Direction}
+use Rattle.sides.specs.declared.Direction.the-variants.{FromCell, FromPlant, NotOurs}
 use Rattle.places.proofs.Places.{slot-lt}
 use Rattle.entries.specs.declared.Replaced.{Replaced}
 use Rattle.entries.specs.Entries.{Written, writtenOf}
@@ -24,12 +25,12 @@ use Rattle.tables.specs.Clock.{Timed, timedOf, timePassed}
 use Rattle.rulings.specs.declared.Ruling.{Ruling}
 use Rattle.rulings.specs.declared.answers.Replacement.{Replacement}
 use Rattle.rulings.specs.declared.answers.Answer.{Answer}
-use Rattle.rulings.specs.declared.answers.Answer.the-variants.{Refused, Judged}
+use Rattle.rulings.specs.declared.answers.Answer.the-variants.{Refused, NotOurs as NotOurs′, Judged}
 use Rattle.rulings.specs.Rules.{Rules, document01}
 use Rattle.tables.specs.Tables.{Tables, tablesOf}
 use Rattle.refusals.specs.Refusals.{earlyRefusal}
 use Rattle.gateway.specs.declared.Spot.{Spot}
-use Rattle.gateway.specs.Packets.{Outcome, outcomeOf, replacementOf, entered, spotOf, rulingAt, settled, ours, directionIn, byDirection}
+use Rattle.gateway.specs.Packets.{Outcome, outcomeOf, replacementOf, entered, spotOf, rulingAt, settled, ours, directionIn, isOurs, isFromPlant, byDirection}
 use Rattle.gateway.specs.Calls.{State, After, orElse, bySizes, unlessRefused, accepted, judged}
 
 -- ---- refusals
@@ -45,6 +46,21 @@ module _ {A : Type 0} (refused : ℕ → A) (before : State) (after : After A) w
   not-refused (suc k) e z = absurd (omega arith)
 
 -- ---- a packet
+module _ (rules : Settings → Rules) (settings : Settings) (h : Header) (before : Tables) where
+  pub by-direction : (d : Direction) {found fromPlant : Bool} → found ≡ isOurs d → found ≡ true → fromPlant ≡ isFromPlant d
+      → ours rules settings h fromPlant before ≡ byDirection rules settings h d before
+  unfolding byDirection
+  by-direction FromCell e t f = ap (λ (b : Bool). ours rules settings h b before) f
+  by-direction FromPlant e t f = ap (λ (b : Bool). ours rules settings h b before) f
+  by-direction NotOurs e t f = true-is-not-false t e
+
+  pub not-ours : (d : Direction) {found : Bool} → found ≡ isOurs d → found ≡ false
+      → record { answer = NotOurs′; tables = before } ≡ byDirection rules settings h d before
+  unfolding byDirection
+  not-ours FromCell e t = true-is-not-false e t
+  not-ours FromPlant e t = true-is-not-false e t
+  not-ours NotOurs e t = refl
+
 pub settled-as : (keys : List ℕ) (spot : Spot) (ruling : Ruling) (records tags : List ℕ) (counts : List ℤ) {replaced : Replaced} {replacement : Replacement} {tags′ : List ℕ} {counts′ : List ℤ}
     → writtenOf replaced tags′ counts′ ≡ entered (spot .place) ruling tags counts
     → replacement ≡ replacementOf keys (spot .lines) (spot .place .line) replaced

@@ -84,6 +84,17 @@ ours rules settings h fromPlant before = settled (settings .keys) spot (rulingAt
 abbrev pub directionIn : List ℕ → List ℕ → Header → Direction
 directionIn cell plant h = directionOf (sideOf cell plant (h .source)) (sideOf cell plant (h .destination))
 
+-- "A packet is ours when one end is cell and the other plant": from either of them
+abbrev pub isOurs : Direction → Bool
+isOurs FromCell = true
+isOurs FromPlant = true
+isOurs NotOurs = false
+
+abbrev pub isFromPlant : Direction → Bool
+isFromPlant FromCell = false
+isFromPlant FromPlant = true
+isFromPlant NotOurs = false
+
 -- "0 not ours": it touches no table
 unfoldable pub byDirection : (Settings → Rules) → Settings → Header → Direction → Tables → Outcome
 byDirection rules settings h FromCell before = ours rules settings h false before

@@ -9,7 +9,7 @@ ghost use Rattle.entries.specs.Entries.{writtenOf};
 ghost use Rattle.tables.specs.Sizes.{badSizes};
 ghost use Rattle.rulings.specs.Rules.{cellOf, plantOf, document01};
 ghost use Rattle.tables.specs.Tables.{tablesOf};
-ghost use Rattle.gateway.specs.Packets.{outcomeOf, replacementOf, entered, spotOf, rulingAt, settled, ours, directionIn, byDirection};
+ghost use Rattle.gateway.specs.Packets.{outcomeOf, replacementOf, entered, spotOf, rulingAt, settled, ours, directionIn, isOurs, isFromPlant, byDirection};
 ghost use Rattle.gateway.specs.Calls.{afterOf, stateOf, started, passed, accepted, judged};
 use entries::Replaced;
 use packet::Header;
@@ -217,7 +217,30 @@ fn direction_in(cell: &[u8], plant: &[u8], header: Header) -> Direction
     sides::direction_of(source, destination)
 }
 
-// Judges a packet by its direction. One that is not ours touches no table.
+// Whether a packet of this direction is ours.
+fn is_ours(direction: Direction) -> bool
+    ensures { λ r. ⌜ r ≡ isOurs direction ⌝ }
+{
+    match direction {
+        Direction::FromCell => true,
+        Direction::FromPlant => true,
+        Direction::NotOurs => false,
+    }
+}
+
+// Whether a packet of this direction is from the plant.
+fn is_from_plant(direction: Direction) -> bool
+    ensures { λ r. ⌜ r ≡ isFromPlant direction ⌝ }
+{
+    match direction {
+        Direction::FromCell => false,
+        Direction::FromPlant => true,
+        Direction::NotOurs => false,
+    }
+}
+
+// Judges a packet by its direction. One that is not ours touches no table. Packets of both directions go by one call, so that the
+// compiler makes one piece of it all and the settings are not copied for it.
 fn judge_by_direction(
     set: Settings,
     header: Header,
@@ -230,11 +253,11 @@ fn judge_by_direction(
     ensures { λ r. ⌜ outcomeOf r (now (records .exit)) (now (tags .exit)) (now (counts .exit))
         ≡ byDirection document01 set header direction (tablesOf (now (records .entry)) (now (tags .entry)) (now (counts .entry))) ⌝ }
 {
-    match direction {
-        Direction::FromCell => judge_ours(set, header, false, records, tags, counts),
-        Direction::FromPlant => judge_ours(set, header, true, records, tags, counts),
-        Direction::NotOurs => Answer::NotOurs,
+    if is_ours(direction) {
+        let from_plant = is_from_plant(direction);
+        return judge_ours(set, header, from_plant, records, tags, counts);
     }
+    Answer::NotOurs
 }
 
 // Passes the time, and then judges a packet whose headers are read.

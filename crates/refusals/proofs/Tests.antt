@@ -48,9 +48,39 @@ pub first-is : (before after : List (ℕ × Bool)) (number : ℕ) → NoneOf bef
 first-is [] after number none = refl
 first-is (test ∷ before) after number none = cond-at _ _ (none .0) ∙ first-is before after number (none .1)
 
--- ---- the numbers 1 to 4
-abbrev pub four : Bool → Bool → Bool → Bool → ℕ
-four a b c d = firstRefusal ((1, a) ∷ (2, b) ∷ (3, c) ∷ (4, d) ∷ [])
+-- ---- 1 and 2 before others
+-- one of them is the first of all, whatever tests follow
+stays : (a b : Bool) (rest : ℕ) {n : ℕ} → n ≡ cond a 1 (cond b 2 0) → (n ≡ 0 → ⊥) → n ≡ cond a 1 (cond b 2 rest)
+stays true b rest e ne = e
+stays false true rest e ne = e
+stays false false rest e ne = absurd (ne e)
+
+-- where neither holds, the tests that follow decide
+goes-on : (a b : Bool) (rest : ℕ) {n : ℕ} → n ≡ cond a 1 (cond b 2 0) → n ≡ 0 → rest ≡ cond a 1 (cond b 2 rest)
+goes-on true b rest e z = absurd (omega arith)
+goes-on false true rest e z = absurd (omega arith)
+goes-on false false rest e z = refl
+
+module _ (settings : Settings) (records tags counts : ℕ) {n : ℕ} (start : n ≡ startRefusal settings records tags counts) where
+  pub time-early : (clock time : ℕ) → (n ≡ 0 → ⊥) → n ≡ timeRefusal settings records tags counts clock time
+  unfolding startRefusal timeRefusal
+  time-early clock time ne = stays (badSettings settings) (badSizes records tags counts) (cond (ltb time clock) 4 0) start ne
+
+  pub time-late : (clock time : ℕ) → n ≡ 0 → cond (ltb time clock) 4 0 ≡ timeRefusal settings records tags counts clock time
+  unfolding startRefusal timeRefusal
+  time-late clock time z = goes-on (badSettings settings) (badSizes records tags counts) (cond (ltb time clock) 4 0) start z
+
+  module _ (cell plant : List ℕ) (clock time : ℕ) where
+    abbrev listsAndTime : ℕ
+    listsAndTime = cond (badList cell || badList plant) 3 (cond (ltb time clock) 4 0)
+
+    pub packet-early : (n ≡ 0 → ⊥) → n ≡ earlyRefusal settings records tags counts cell plant clock time
+    unfolding startRefusal earlyRefusal
+    packet-early ne = stays (badSettings settings) (badSizes records tags counts) listsAndTime start ne
+
+    pub packet-late : n ≡ 0 → listsAndTime ≡ earlyRefusal settings records tags counts cell plant clock time
+    unfolding startRefusal earlyRefusal
+    packet-late z = goes-on (badSettings settings) (badSizes records tags counts) listsAndTime start z
 
 -- ---- where there is no refusal, no condition holds
 passed-by : (number : ℕ) (t : Bool) (rest : ℕ) → 0 < number → cond t number rest ≡ 0 → (t ≡ false) × (rest ≡ 0)

@@ -58,7 +58,7 @@ fn rank(list: &[u8], k: usize, address: u32) -> u8
     if 32 < prefix {
         return 0;
     }
-    let net = words::four_at(list, i);
+    let net = words::of_four(list[i], list[i + 1], list[i + 2], list[i + 3]);
     let beyond = 32 - prefix;
     if (address as u64) >> beyond == (net as u64) >> beyond {
         prefix + 1

@@ -3,14 +3,15 @@ ghost use mathlib.Core.Bool.{true};
 ghost use mathlib.Core.Path.{_≡_};
 ghost use Rattle.words.specs.Words.{ofTwo, ofFour, twoAt, fourAt, twoIn, fourIn, whole};
 
-// The number of two bytes, and of four, the most significant first.
+// The number that two bytes make, the most significant first.
 fn of_two(first: u8, second: u8) -> u16
     ensures { λ r. ⌜ r ≡ ofTwo first second ⌝ }
 {
     (first as u16) * 256 + (second as u16)
 }
 
-fn of_four(first: u8, second: u8, third: u8, fourth: u8) -> u32
+// The number that four bytes make, the most significant first.
+pub fn of_four(first: u8, second: u8, third: u8, fourth: u8) -> u32
     ensures { λ r. ⌜ r ≡ ofFour first second third fourth ⌝ }
 {
     (first as u32) * 16777216 + (second as u32) * 65536 + (third as u32) * 256 + (fourth as u32)

@@ -1,18 +1,53 @@
--- `embed::spritgrommet_judge_frame` meets its contract: the call's own, with its answer in plain numbers.
+-- `embed::spritgrommet_judge_frame` meets its contract: by what the frame holds, and for a packet by `spritgrommet_judge`'s own.
 -- Assumes nothing.
-use mathlib.Core.Path.{ap}
-use Rattle.rulings.specs.declared.answers.Answer.{Answer}
-use Rattle.gateway.specs.Calls.{After}
+use mathlib.Core.Path.{sym, ap, _∙_}
+use denote.Ref.{now}
+use Rattle.gateway.specs.Calls.{stateOf}
+use Rattle.rulings.specs.Rules.{document01}
+use Rattle.frames.proofs.Cases.{has-header, by-inside, all-from}
 use Rattle.embed.specs.Plain.{plainly, plainAnswer}
 use borrow.Author.Needs.{needs}
 use Rattle.embed.proofs.spritgrommet_judge_frame.Statement.{statement}
 use Rattle.embed.proofs.spritgrommet_judge_frame.Tie as tie
 
-judge-requires : tie.Need-judge-requires
-judge-requires c κs = search needs
+what-is-in-requires : tie.Need-what-is-in-requires
+what-is-in-requires c κs = search needs
+
+enum-told : tie.Need-enum-told
+enum-told c = search needs
 
 of-answer-requires : tie.Need-of-answer-requires
 of-answer-requires c κs = search needs
+
+enum-told-2 : tie.Need-enum-told-2
+enum-told-2 c = search needs
+
+sub-packet : tie.Need-sub-packet
+sub-packet c = has-header _ (sym (c .before .before .what-is-in .ensures) ∙ c .enum-told2 .given .1)
+
+part-packet-start : tie.Need-part-packet-start
+part-packet-start c = has-header _ (sym (c .before .before .what-is-in .ensures) ∙ c .enum-told2 .given .1)
+
+part-packet-end : tie.Need-part-packet-end
+part-packet-end c = search needs
+
+spritgrommet-judge-requires : tie.Need-spritgrommet-judge-requires
+spritgrommet-judge-requires c κs = search needs
+
+enum-told-3 : tie.Need-enum-told-3
+enum-told-3 c = search needs
+
+of-answer-requires-2 : tie.Need-of-answer-requires-2
+of-answer-requires-2 c κs = search needs
+
+returns : tie.Need-returns
+returns c =
+    let s = c .before .before .before .before .before .before .before .before .before in
+    rw (c .of-answer .ensures)
+    (ap (plainly plainAnswer)
+    (by-inside (now (s .args .frame)) document01 (s .args .set) (now (s .args .cell)) (now (s .args .plant)) (s .args .time)
+    (stateOf (now (s .args .records)) (now (s .args .tags)) (now (s .args .counts)) (now (s .args .clock)))
+    (sym (c .before .enum-told .given .1) ∙ c .before .before .before .what-is-in .ensures)))
 
 same-length : tie.Need-same-length
 same-length c = search needs
@@ -23,10 +58,43 @@ same-length-2 c = search needs
 same-length-3 : tie.Need-same-length-3
 same-length-3 c = search needs
 
-returns : tie.Need-returns
-returns c = rw (c .of-answer .ensures) (ap (λ (a : After Answer). plainly plainAnswer a) (c .before .before .before .before .before .before .judge .ensures))
+returns-2 : tie.Need-returns-2
+returns-2 c =
+    let j = c .before .before .before .before .before in
+    let t = j .before .before .before .before .before .before in
+    let s = t .before .before .before .before .before .before .before .before in
+    (rw (all-from 14 (s .args .frame .now)) at (j .spritgrommet-judge .ensures)) ∙
+    (ap (plainly plainAnswer)
+    (by-inside (now (s .args .frame)) document01 (s .args .set) (now (s .args .cell)) (now (s .args .plant)) (s .args .time)
+    (stateOf (now (s .args .records)) (now (s .args .tags)) (now (s .args .counts)) (now (s .args .clock)))
+    (sym (t .enum-told2 .given .1) ∙ t .before .before .what-is-in .ensures)))
+
+returns-3 : tie.Need-returns-3
+returns-3 c =
+    let s = c .before .before .before .before .before .before .before .before .before in
+    rw (c .of-answer2 .ensures)
+    (ap (plainly plainAnswer)
+    (by-inside (now (s .args .frame)) document01 (s .args .set) (now (s .args .cell)) (now (s .args .plant)) (s .args .time)
+    (stateOf (now (s .args .records)) (now (s .args .tags)) (now (s .args .counts)) (now (s .args .clock)))
+    (sym (c .before .enum-told3 .given .1) ∙ c .before .before .before .what-is-in .ensures)))
 
 pub spritgrommet-judge-frame-spec : {M : Type 1} → statement M
 spritgrommet-judge-frame-spec =
     tie.close
-    (tie.spec judge-requires of-answer-requires same-length same-length-2 same-length-3 returns)
+    (tie.spec
+    what-is-in-requires
+    enum-told
+    of-answer-requires
+    enum-told-2
+    sub-packet
+    part-packet-start
+    part-packet-end
+    spritgrommet-judge-requires
+    enum-told-3
+    of-answer-requires-2
+    returns
+    same-length
+    same-length-2
+    same-length-3
+    returns-2
+    returns-3)

@@ -1,36 +1,44 @@
--- `frames::judge` meets its contract, case by case.
+-- `frames::judge` meets its contract: by what the frame holds.
 -- Assumes nothing.
+use mathlib.Core.Path.{sym, _∙_}
+use denote.Ref.{now}
+use Rattle.gateway.specs.Calls.{stateOf}
+use Rattle.rulings.specs.Rules.{document01}
+use Rattle.frames.proofs.Cases.{has-header, by-inside, all-from}
 use borrow.Author.Needs.{needs}
-use mathlib.Core.Path.{_∙_, sym}
-use native.Mathlib.Omega.{arith}
-use Rattle.frames.proofs.Cases.{too-short, another, ipv4, all-from}
 use Rattle.frames.proofs.judge.Statement.{statement}
 use Rattle.frames.proofs.judge.Tie as tie
-use Rattle.words.proofs.Words.{there}
-use Rattle.words.specs.Words.{twoAt}
 
-returns : tie.Need-returns
-returns c = sym (too-short _ _ _ _ _ _ _ (c .if1 .taken))
+what-is-in-requires : tie.Need-what-is-in-requires
+what-is-in-requires c κs = search needs
 
-two-at-requires : tie.Need-two-at-requires
-two-at-requires c κs = search needs
+enum-told : tie.Need-enum-told
+enum-told c = search needs
 
-returns-2 : tie.Need-returns-2
-returns-2 c = let whole = c .before .before .if1 .left in
-    let type = c .before .two-at .ensures ∙ there 2 twoAt _ _ (omega (arith, whole)) in
-    sym (another _ _ _ _ _ _ _ whole (rw type at (c .if2 .taken)))
+enum-told-2 : tie.Need-enum-told-2
+enum-told-2 c = search needs
 
-sub-judge : tie.Need-sub-judge
-sub-judge c = search needs
+sub-packet : tie.Need-sub-packet
+sub-packet c = has-header _ (sym (c .before .before .what-is-in .ensures) ∙ c .enum-told2 .given .1)
 
-part-judge-start : tie.Need-part-judge-start
-part-judge-start c = search needs
+part-packet-start : tie.Need-part-packet-start
+part-packet-start c = has-header _ (sym (c .before .before .what-is-in .ensures) ∙ c .enum-told2 .given .1)
 
-part-judge-end : tie.Need-part-judge-end
-part-judge-end c = search needs
+part-packet-end : tie.Need-part-packet-end
+part-packet-end c = search needs
 
 judge-requires : tie.Need-judge-requires
 judge-requires c κs = search needs
+
+enum-told-3 : tie.Need-enum-told-3
+enum-told-3 c = search needs
+
+returns : tie.Need-returns
+returns c =
+    let s = c .before .before .before .before .before .before .before .before in
+    by-inside (now (s .args .frame)) document01 (s .args .set) (now (s .args .cell)) (now (s .args .plant)) (s .args .time)
+    (stateOf (now (s .args .records)) (now (s .args .tags)) (now (s .args .counts)) (now (s .args .clock)))
+    (sym (c .enum-told .given .1) ∙ c .before .before .what-is-in .ensures)
 
 same-length : tie.Need-same-length
 same-length c = search needs
@@ -41,24 +49,38 @@ same-length-2 c = search needs
 same-length-3 : tie.Need-same-length-3
 same-length-3 c = search needs
 
+returns-2 : tie.Need-returns-2
+returns-2 c =
+    let j = c .before .before .before .before .before in
+    let t = j .before .before .before .before .before .before in
+    let s = t .before .before .before .before .before .before .before .before in
+    (rw (all-from 14 (s .args .frame .now)) at (j .judge .ensures))
+    ∙ by-inside (now (s .args .frame)) document01 (s .args .set) (now (s .args .cell)) (now (s .args .plant)) (s .args .time)
+    (stateOf (now (s .args .records)) (now (s .args .tags)) (now (s .args .counts)) (now (s .args .clock)))
+    (sym (t .enum-told2 .given .1) ∙ t .before .before .what-is-in .ensures)
+
 returns-3 : tie.Need-returns-3
-returns-3 c = let whole = c .before .before .before .before .before .before .before .before .before .before .before .before .before .if1 .left in
-    let type = c .before .before .before .before .before .before .before .before .before .before .before .before .two-at .ensures ∙ there 2 twoAt _ _ (omega (arith, whole)) in
-    rw (ipv4 _ _ _ _ _ _ _ whole (rw type at (c .before .before .before .before .before .before .before .before .before .before .before .if2 .left)))
-    (rw (all-from 14 (c .before .before .before .before .before .before .before .before .before .before .before .before .before .before .before .before .before .before .before .args .frame .now)) at (c .before .before .before .before .before .judge .ensures))
+returns-3 c =
+    let s = c .before .before .before .before .before .before .before .before in
+    by-inside (now (s .args .frame)) document01 (s .args .set) (now (s .args .cell)) (now (s .args .plant)) (s .args .time)
+    (stateOf (now (s .args .records)) (now (s .args .tags)) (now (s .args .counts)) (now (s .args .clock)))
+    (sym (c .enum-told3 .given .1) ∙ c .before .before .what-is-in .ensures)
 
 pub judge-spec : {M : Type 1} → statement M
 judge-spec =
     tie.close
     (tie.spec
-    returns
-    two-at-requires
-    returns-2
-    sub-judge
-    part-judge-start
-    part-judge-end
+    what-is-in-requires
+    enum-told
+    enum-told-2
+    sub-packet
+    part-packet-start
+    part-packet-end
     judge-requires
+    enum-told-3
+    returns
     same-length
     same-length-2
     same-length-3
+    returns-2
     returns-3)

@@ -1,24 +1,22 @@
 -- `gateway::judge_by_direction` meets its contract: by the direction, a packet of ours or one that touches nothing.
 -- Assumes nothing.
+use mathlib.Core.Path.{_∙_}
+use denote.Ref.{now}
 use borrow.Author.Needs.{needs}
-use Rattle.gateway.specs.Packets.{byDirection}
+use Rattle.tables.specs.Tables.{tablesOf}
+use Rattle.rulings.specs.Rules.{document01}
+use Rattle.gateway.proofs.Steps.{by-direction, not-ours}
 use Rattle.gateway.proofs.judge_by_direction.Statement.{statement}
 use Rattle.gateway.proofs.judge_by_direction.Tie as tie
 
-enum-told : tie.Need-enum-told
-enum-told c = search needs
+is-ours-requires : tie.Need-is-ours-requires
+is-ours-requires c κs = search needs
+
+is-from-plant-requires : tie.Need-is-from-plant-requires
+is-from-plant-requires c κs = search needs
 
 judge-ours-requires : tie.Need-judge-ours-requires
-judge-ours-requires c κs = c .before .before .before .before .before .before .before .pre
-
-enum-told-2 : tie.Need-enum-told-2
-enum-told-2 c = search needs
-
-judge-ours-requires-2 : tie.Need-judge-ours-requires-2
-judge-ours-requires-2 c κs = c .before .before .before .before .before .before .before .pre
-
-enum-told-3 : tie.Need-enum-told-3
-enum-told-3 c = search needs
+judge-ours-requires c κs = c .before .before .before .before .before .before .before .before .pre
 
 same-length : tie.Need-same-length
 same-length c = search needs
@@ -30,41 +28,29 @@ same-length-3 : tie.Need-same-length-3
 same-length-3 c = search needs
 
 returns : tie.Need-returns
-unfolding byDirection
-returns c = rw (c .before .before .before .before .before .before .before .before .before .enum-told .given .1) (c .before .before .before .before .before .judge-ours .ensures)
-
-same-length-4 : tie.Need-same-length-4
-same-length-4 c = search needs
-
-same-length-5 : tie.Need-same-length-5
-same-length-5 c = search needs
-
-same-length-6 : tie.Need-same-length-6
-same-length-6 c = search needs
+returns c =
+    let called = c .before .before .before .before .before in
+    let told = called .before .before .before .before in
+    let s = told .before .before .before .before .before in
+    called .judge-ours .ensures
+    ∙ by-direction document01 (s .args .set) (s .args .header) (tablesOf (now (s .args .records)) (now (s .args .tags)) (now (s .args .counts)))
+    (s .args .direction) (told .before .before .is-ours .ensures) (told .before .if1 .taken) (told .is-from-plant .ensures)
 
 returns-2 : tie.Need-returns-2
-unfolding byDirection
-returns-2 c = rw (c .before .before .before .before .before .before .before .before .before .enum-told2 .given .1) (c .before .before .before .before .before .judge-ours2 .ensures)
-
-returns-3 : tie.Need-returns-3
-unfolding byDirection
-returns-3 c = rw (c .enum-told3 .given .1)
+returns-2 c =
+    let s = c .before .before .before .before in
+    not-ours document01 (s .args .set) (s .args .header) (tablesOf (now (s .args .records)) (now (s .args .tags)) (now (s .args .counts)))
+    (s .args .direction) (c .before .is-ours .ensures) (c .if1 .left)
 
 pub judge-by-direction-spec : {M : Type 1} → statement M
 judge-by-direction-spec =
     tie.close
     (tie.spec
-    enum-told
+    is-ours-requires
+    is-from-plant-requires
     judge-ours-requires
-    enum-told-2
-    judge-ours-requires-2
-    enum-told-3
     same-length
     same-length-2
     same-length-3
     returns
-    same-length-4
-    same-length-5
-    same-length-6
-    returns-2
-    returns-3)
+    returns-2)

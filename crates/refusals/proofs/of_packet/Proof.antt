@@ -1,43 +1,82 @@
--- `refusals::of_packet` meets its contract: the first of four tests.
+-- `refusals::of_packet` meets its contract: 1 and 2 first, then either list, and then the time.
 -- Assumes nothing.
-use mathlib.Core.Bool.{_||_}
-use mathlib.Core.Path.{_∙_}
-use lib.Dec.{ltb}
+use mathlib.Core.Path.{sym, _∙_}
 use borrow.Author.Needs.{needs}
-use Rattle.refusals.proofs.Tests.{four}
-use Rattle.refusals.specs.Refusals.{earlyRefusal}
+use denote.Ref.{now}
+use borrow.Author.Tests.{lt-ltb, le-ltb}
+use Rattle.refusals.proofs.Tests.{packet-early, packet-late}
 use Rattle.refusals.proofs.of_packet.Statement.{statement}
 use Rattle.refusals.proofs.of_packet.Tie as tie
 
-bad-sizes-requires : tie.Need-bad-sizes-requires
-bad-sizes-requires c κs = search needs
+of-start-requires : tie.Need-of-start-requires
+of-start-requires c κs = search needs
+
+returns : tie.Need-returns
+returns c =
+    let s = c .before in
+    let a = s .before .before .before .args in
+    packet-early (a .set) (a .records) (a .tags) (a .counts) (s .of-start .ensures) (now (a .cell)) (now (a .plant)) (a .clock) (a .time) (c .if1 .taken)
 
 bad-list-requires : tie.Need-bad-list-requires
 bad-list-requires c κs = search needs
 
+returns-2 : tie.Need-returns-2
+returns-2 c =
+    let i = c .before .before in
+    let s = i .before in
+    let a = s .before .before .before .args in
+    rw (
+      ← (packet-late (a .set) (a .records) (a .tags) (a .counts) (s .of-start .ensures) (now (a .cell)) (now (a .plant)) (a .clock) (a .time) (i .if1 .left)),
+      sym (c .before .bad-list .ensures) ∙ c .if2 .taken,
+    )
+
 bad-list-requires-2 : tie.Need-bad-list-requires-2
 bad-list-requires-2 c κs = search needs
 
-is-bad-requires : tie.Need-is-bad-requires
-is-bad-requires c κs = search needs
+returns-3 : tie.Need-returns-3
+returns-3 c =
+    let i = c .before .before .before .before in
+    let s = i .before in
+    let a = s .before .before .before .args in
+    rw (
+      ← (packet-late (a .set) (a .records) (a .tags) (a .counts) (s .of-start .ensures) (now (a .cell)) (now (a .plant)) (a .clock) (a .time) (i .if1 .left)),
+      sym (c .before .before .before .bad-list .ensures) ∙ c .before .before .if2 .left,
+      sym (c .before .bad-list2 .ensures) ∙ c .if3 .taken,
+    )
 
-first-of-requires : tie.Need-first-of-requires
-first-of-requires c κs = search needs
+returns-4 : tie.Need-returns-4
+returns-4 c =
+    let i = c .before .before .before .before .before in
+    let s = i .before in
+    let a = s .before .before .before .args in
+    rw (
+      ← (packet-late (a .set) (a .records) (a .tags) (a .counts) (s .of-start .ensures) (now (a .cell)) (now (a .plant)) (a .clock) (a .time) (i .if1 .left)),
+      sym (c .before .before .before .before .bad-list .ensures) ∙ c .before .before .before .if2 .left,
+      sym (c .before .before .bad-list2 .ensures) ∙ c .before .if3 .left,
+      le-ltb _ _ (c .if4 .taken),
+    )
 
-returns : tie.Need-returns
-unfolding earlyRefusal
-returns c =
-    let s = c .before .before .before .before .before .before .before in
-    c .first-of .ensures
-    ∙ (λ i. four (c .before .is-bad .ensures i) (c .before .before .before .before .bad-sizes .ensures i) (c .before .before .before .bad-list .ensures i || c .before .before .bad-list2 .ensures i) (ltb (s .args .time) (s .args .clock)))
+returns-5 : tie.Need-returns-5
+returns-5 c =
+    let i = c .before .before .before .before .before in
+    let s = i .before in
+    let a = s .before .before .before .args in
+    rw (
+      ← (packet-late (a .set) (a .records) (a .tags) (a .counts) (s .of-start .ensures) (now (a .cell)) (now (a .plant)) (a .clock) (a .time) (i .if1 .left)),
+      sym (c .before .before .before .before .bad-list .ensures) ∙ c .before .before .before .if2 .left,
+      sym (c .before .before .bad-list2 .ensures) ∙ c .before .if3 .left,
+      lt-ltb _ _ (c .if4 .left),
+    )
 
 pub of-packet-spec : {M : Type 1} → statement M
 of-packet-spec =
     tie.close
     (tie.spec
-    bad-sizes-requires
+    of-start-requires
+    returns
     bad-list-requires
+    returns-2
     bad-list-requires-2
-    is-bad-requires
-    first-of-requires
-    returns)
+    returns-3
+    returns-4
+    returns-5)

@@ -1,25 +1,28 @@
--- `refusals::of_start` meets its contract: the first of two tests.
+-- `refusals::of_start` meets its contract: its tests in their order.
 -- Assumes nothing.
-use mathlib.Core.Bool.{false}
-use mathlib.Core.Path.{_∙_}
+use mathlib.Core.Path.{sym, _∙_}
 use borrow.Author.Needs.{needs}
-use Rattle.refusals.proofs.Tests.{four}
 use Rattle.refusals.specs.Refusals.{startRefusal}
 use Rattle.refusals.proofs.of_start.Statement.{statement}
 use Rattle.refusals.proofs.of_start.Tie as tie
 
-bad-sizes-requires : tie.Need-bad-sizes-requires
-bad-sizes-requires c κs = search needs
-
 is-bad-requires : tie.Need-is-bad-requires
 is-bad-requires c κs = search needs
 
-first-of-requires : tie.Need-first-of-requires
-first-of-requires c κs = search needs
-
 returns : tie.Need-returns
 unfolding startRefusal
-returns c = c .first-of .ensures ∙ (λ i. four (c .before .is-bad .ensures i) (c .before .before .bad-sizes .ensures i) false false)
+returns c = rw (sym (c .before .is-bad .ensures) ∙ c .if1 .taken)
+
+bad-sizes-requires : tie.Need-bad-sizes-requires
+bad-sizes-requires c κs = search needs
+
+returns-2 : tie.Need-returns-2
+unfolding startRefusal
+returns-2 c = rw (sym (c .before .before .before .is-bad .ensures) ∙ c .before .before .if1 .left, sym (c .before .bad-sizes .ensures) ∙ c .if2 .taken)
+
+returns-3 : tie.Need-returns-3
+unfolding startRefusal
+returns-3 c = rw (sym (c .before .before .before .is-bad .ensures) ∙ c .before .before .if1 .left, sym (c .before .bad-sizes .ensures) ∙ c .if2 .left)
 
 pub of-start-spec : {M : Type 1} → statement M
-of-start-spec = tie.close (tie.spec bad-sizes-requires is-bad-requires first-of-requires returns)
+of-start-spec = tie.close (tie.spec is-bad-requires returns bad-sizes-requires returns-2 returns-3)

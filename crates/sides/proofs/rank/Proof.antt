@@ -1,10 +1,6 @@
 -- `sides::rank` meets its contract: the tests are those of the definition.
 -- Assumes nothing.
-use mathlib.Core.Path.{_∙_}
-use native.Mathlib.Omega.{arith}
 use borrow.Author.Needs.{needs}
-use Rattle.words.specs.Words.{fourAt}
-use Rattle.words.proofs.Words.{there}
 use Rattle.sides.proofs.Steps.{too-long, held, not-held}
 use Rattle.sides.proofs.rank.Statement.{statement}
 use Rattle.sides.proofs.rank.Tie as tie
@@ -21,8 +17,29 @@ shared-slice-read-prefix c = search needs
 returns : tie.Need-returns
 returns c = too-long _ _ _ (c .if1 .taken)
 
-four-at-requires : tie.Need-four-at-requires
-four-at-requires c κs = search needs
+shared-slice-read-of-four : tie.Need-shared-slice-read-of-four
+shared-slice-read-of-four c = search needs
+
+add-of-four : tie.Need-add-of-four
+add-of-four c = search needs
+
+shared-slice-read-of-four-2 : tie.Need-shared-slice-read-of-four-2
+shared-slice-read-of-four-2 c = search needs
+
+add-of-four-2 : tie.Need-add-of-four-2
+add-of-four-2 c = search needs
+
+shared-slice-read-of-four-3 : tie.Need-shared-slice-read-of-four-3
+shared-slice-read-of-four-3 c = search needs
+
+add-of-four-3 : tie.Need-add-of-four-3
+add-of-four-3 c = search needs
+
+shared-slice-read-of-four-4 : tie.Need-shared-slice-read-of-four-4
+shared-slice-read-of-four-4 c = search needs
+
+of-four-requires : tie.Need-of-four-requires
+of-four-requires c κs = search needs
 
 cast-if2 : tie.Need-cast-if2
 cast-if2 c = search needs
@@ -43,10 +60,10 @@ add-result : tie.Need-add-result
 add-result c = search needs
 
 returns-2 : tie.Need-returns-2
-returns-2 c = held _ _ _ _ (c .before .four-at .ensures ∙ there 4 fourAt _ _ (omega arith)) (c .before .before .if1 .left) (c .if2 .taken)
+returns-2 c = held _ _ _ _ (c .before .of-four .ensures) (c .before .before .before .before .before .before .if1 .left) (c .if2 .taken)
 
 returns-3 : tie.Need-returns-3
-returns-3 c = not-held _ _ _ _ (c .before .four-at .ensures ∙ there 4 fourAt _ _ (omega arith)) (c .before .before .if1 .left) (c .if2 .left)
+returns-3 c = not-held _ _ _ _ (c .before .of-four .ensures) (c .before .before .before .before .before .before .if1 .left) (c .if2 .left)
 
 pub rank-spec : {M : Type 1} → statement M
 rank-spec =
@@ -56,7 +73,14 @@ rank-spec =
     add-prefix
     shared-slice-read-prefix
     returns
-    four-at-requires
+    shared-slice-read-of-four
+    add-of-four
+    shared-slice-read-of-four-2
+    add-of-four-2
+    shared-slice-read-of-four-3
+    add-of-four-3
+    shared-slice-read-of-four-4
+    of-four-requires
     cast-if2
     shr-if2
     cast-if2-2
