@@ -32,11 +32,11 @@ extern "C" {
 
 /* The settings. `spritgrommet_factory` has the factory's. */
 struct spritgrommet_settings {
+    uint32_t keys[8];   /* the round keys of the address permutation: any, and secret */
     uint16_t threshold; /* T, 1 to 255: an address is blocked when its count is at least this */
     int16_t floor;      /* Cmin, -1,000 to 0: no credit lowers a count below this */
     uint16_t dmiss;     /* Dmiss, 1 to 3,600 seconds: at each multiple every positive count falls by one */
     uint8_t dconn;      /* Dconn, 1 to 62 minutes: a connection record lives over so many minute boundaries */
-    uint32_t keys[8];   /* the round keys of the address permutation: any, and secret */
 };
 
 /* A side list: entries of five bytes, an address, most significant byte first, then a prefix length. Up to 64 entries. */

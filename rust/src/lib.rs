@@ -10,6 +10,8 @@ pub use capture::{Capture, Record};
 #[repr(C)]
 #[derive(Clone, Copy, Debug, PartialEq, Eq)]
 pub struct Settings {
+    /// The round keys of the address permutation.
+    pub keys: [u32; 8],
     /// T: a cell address is blocked when its count is at least this.
     pub threshold: u16,
     /// Cmin: no credit lowers a count below this.
@@ -18,8 +20,6 @@ pub struct Settings {
     pub dmiss: u16,
     /// Dconn: a connection record lives over so many minute boundaries.
     pub dconn: u8,
-    /// The round keys of the address permutation.
-    pub keys: [u32; 8],
 }
 
 impl Settings {

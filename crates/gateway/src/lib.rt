@@ -9,7 +9,7 @@ ghost use Rattle.entries.specs.Entries.{writtenOf};
 ghost use Rattle.tables.specs.Sizes.{badSizes};
 ghost use Rattle.rulings.specs.Rules.{cellOf, plantOf, document01};
 ghost use Rattle.tables.specs.Tables.{tablesOf};
-ghost use Rattle.gateway.specs.Packets.{outcomeOf, replacementOf, entered, spotOf, rulingAt, settled, ours, directionIn, isOurs, isFromPlant, byDirection};
+ghost use Rattle.gateway.specs.Packets.{outcomeOf, replacementOf, entered, spotOf, rulingAt, settled, ours, isOurs, isFromPlant, byDirection};
 ghost use Rattle.gateway.specs.Calls.{afterOf, stateOf, started, passed, accepted, judged};
 use entries::Replaced;
 use packet::Header;
@@ -208,15 +208,6 @@ fn judge_ours(
     settle(set, spot, ruling, records, tags, counts)
 }
 
-// The direction of a packet, by both side lists.
-fn direction_in(cell: &[u8], plant: &[u8], header: Header) -> Direction
-    ensures { λ r. ⌜ r ≡ directionIn (now (cell .entry)) (now (plant .entry)) header ⌝ }
-{
-    let source = sides::side_of(cell, plant, header.source);
-    let destination = sides::side_of(cell, plant, header.destination);
-    sides::direction_of(source, destination)
-}
-
 // Whether a packet of this direction is ours.
 fn is_ours(direction: Direction) -> bool
     ensures { λ r. ⌜ r ≡ isOurs direction ⌝ }
@@ -312,7 +303,9 @@ pub fn judge(
     match packet::read(packet) {
         Reading::Refused(number) => Answer::Refused(number),
         Reading::Packet(header) => {
-            let direction = direction_in(cell, plant, header);
+            let source = header.source;
+            let destination = header.destination;
+            let direction = sides::direction_between(cell, plant, source, destination);
             accept(set, header, direction, records, tags, counts, clock, time)
         }
     }

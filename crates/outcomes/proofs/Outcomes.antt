@@ -34,6 +34,7 @@ use Rattle.entries.proofs.count_of.Reads as entries-count-of
 use Rattle.entries.proofs.write.Reads as entries-write
 use Rattle.entries.specs.Entries.{writtenOf}
 use Rattle.frames.proofs.judge.Reads as frames-judge
+use Rattle.frames.proofs.what_is_in.Reads as frames-what-is-in
 use Rattle.gateway.proofs.cold_start.Reads as gateway-cold-start
 use Rattle.gateway.proofs.judge.Reads as gateway-judge
 use Rattle.gateway.proofs.pass.Reads as gateway-pass
@@ -65,6 +66,8 @@ use Rattle.settings.proofs.Settings.factory.Reads as settings-settings-factory
 use Rattle.settings.proofs.Settings.is_bad.Reads as settings-settings-is-bad
 use Rattle.sides.proofs.bad_list.Reads as sides-bad-list
 use Rattle.sides.proofs.best_in.Reads as sides-best-in
+use Rattle.sides.proofs.best_of_two.Reads as sides-best-of-two
+use Rattle.sides.proofs.direction_between.Reads as sides-direction-between
 use Rattle.sides.proofs.direction_of.Reads as sides-direction-of
 use Rattle.sides.proofs.side_of.Reads as sides-side-of
 use Rattle.sides.proofs.winner.Reads as sides-winner
@@ -85,6 +88,7 @@ use Rattle.verdicts.proofs.record_after.Reads as verdicts-record-after
 use Rattle.verdicts.proofs.verdict_of.Reads as verdicts-verdict-of
 use Rattle.words.proofs.four_at.Reads as words-four-at
 use Rattle.words.proofs.four_in.Reads as words-four-in
+use Rattle.words.proofs.of_four.Reads as words-of-four
 use Rattle.words.proofs.two_at.Reads as words-two-at
 use Rattle.words.proofs.two_in.Reads as words-two-in
 use denote.Ref.{now}
@@ -97,6 +101,9 @@ One {X = X} {S = S} allowed outcome = (x y : X) (s t : S) → allowed x s → al
 -- the one lemma: a contract is an equation of its outcome with a definition's value at the entry
 same : {O : Type 0} {x y d : O} → x ≡ d → y ≡ d → x ≡ y
 same p q = p ∙ sym q
+
+pub words-of-four-one : (κs : _) (a : _) → One (words-of-four.Learnt κs a) (λ x s. x)
+words-of-four-one κs a x y s t p q = same p q
 
 pub words-two-in-one : (κs : _) (a : _) → One (words-two-in.Learnt κs a) (λ x s. x)
 words-two-in-one κs a x y s t p q = same p q
@@ -137,6 +144,9 @@ sides-bad-list-one κs a x y s t p q = same p q
 pub sides-best-in-one : (κs : _) (a : _) → One (sides-best-in.Learnt κs a) (λ x s. x)
 sides-best-in-one κs a x y s t p q = same p q
 
+pub sides-best-of-two-one : (κs : _) (a : _) → One (sides-best-of-two.Learnt κs a) (λ x s. x)
+sides-best-of-two-one κs a x y s t p q = same p q
+
 pub sides-winner-one-part : (κs : _) (a : _) → One (sides-winner.Learnt κs a) (λ x s. now x)
 sides-winner-one-part κs a x y s t p q = same (p .0) (q .0)
 
@@ -151,6 +161,9 @@ sides-side-of-one κs a x y s t p q = same p q
 
 pub sides-direction-of-one : (κs : _) (a : _) → One (sides-direction-of.Learnt κs a) (λ x s. x)
 sides-direction-of-one κs a x y s t p q = same p q
+
+pub sides-direction-between-one : (κs : _) (a : _) → One (sides-direction-between.Learnt κs a) (λ x s. x)
+sides-direction-between-one κs a x y s t p q = same p q
 
 pub packet-kinds-of-flags-one : (κs : _) (a : _) → One (packet-kinds-of-flags.Learnt κs a) (λ x s. x)
 packet-kinds-of-flags-one κs a x y s t p q = same p q
@@ -261,6 +274,9 @@ pub tally-tally-with-one : (κs : _) (a : _) → One (tally-tally-with.Learnt κ
 tally-tally-with-one κs a x y s t p q = same p q
 
 -- tally::add is left out: its proof is a walk by hand, for which there is no `Learnt`; its contract is the equation of `Tally::with`
+
+pub frames-what-is-in-one : (κs : _) (a : _) → One (frames-what-is-in.Learnt κs a) (λ x s. x)
+frames-what-is-in-one κs a x y s t p q = same p q
 
 pub frames-judge-one : (κs : _) (a : _) → One (frames-judge.Learnt κs a) (λ x s. afterOf x (now (s .1 .1 .1 .0)) (now (s .1 .1 .1 .1 .0)) (now (s .1 .1 .1 .1 .1 .0)) (now (s .1 .1 .1 .1 .1 .1 .0)))
 frames-judge-one κs a x y s t p q = same p q

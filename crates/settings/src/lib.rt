@@ -3,9 +3,11 @@ ghost use mathlib.Core.Path.{_≡_};
 ghost use Rattle.settings.specs.Settings.{factorySettings, badSettings};
 
 // The type of each number is wider than its range, so that a value outside it can be given, and is refused. Laid out as C does, for the
-// programs that link the gateway.
+// programs that link the gateway; the keys come first, so that a copy of them is an aligned one.
 #[repr(C)]
 pub struct Settings {
+    // The eight round keys of the address permutation.
+    pub keys: [u32; 8],
     // T: a cell address is blocked when its count is at least this.
     pub threshold: u16,
     // Cmin: no credit lowers a count below this.
@@ -14,8 +16,6 @@ pub struct Settings {
     pub dmiss: u16,
     // Dconn: a connection record lives over so many minute boundaries.
     pub dconn: u8,
-    // The eight round keys of the address permutation.
-    pub keys: [u32; 8],
 }
 
 impl Settings {

@@ -9,6 +9,7 @@ use denote.Ref.{RefT}
 use Rattle.laws.specs.Search.{every, foremost}
 use Rattle.words.specs.Words.{fourAt}
 use Rattle.sides.specs.declared.Best.{Best}
+use Rattle.sides.specs.declared.BestOfTwo.{BestOfTwo}
 use Rattle.sides.specs.declared.Side.{Side}
 use Rattle.sides.specs.declared.Side.the-variants.{Cell, Plant, Neither}
 use Rattle.sides.specs.declared.Winning.{Winning}
@@ -50,13 +51,20 @@ bestNumber l address = foremost leb (rankOf l address) (suc (entries l))
 unfoldable pub bestIn : List ℕ → ℕ → Best
 bestIn l address = record { number = bestNumber l address; rank = rankOf l address (bestNumber l address) }
 
+-- the same for two addresses
+abbrev pub bestOfTwo : List ℕ → ℕ → ℕ → BestOfTwo
+bestOfTwo l first second = record { first = bestIn l first; second = bestIn l second }
+
 -- "An address belongs to the list with the longest prefix that holds it; at equal length the cell list wins"
 unfoldable pub decided {ℓ} : {A : Type ℓ} → Best → Best → A → A → A → A
 decided ofCell ofPlant cell plant neither =
     cond (ltb (ofCell .rank) (ofPlant .rank)) plant (cond (ltb 0 (ofCell .rank)) cell neither)
 
+abbrev pub sideBy : Best → Best → Side
+sideBy inCell inPlant = decided inCell inPlant Cell Plant Neither
+
 abbrev pub sideOf : List ℕ → List ℕ → ℕ → Side
-sideOf cell plant address = decided (bestIn cell address) (bestIn plant address) Cell Plant Neither
+sideOf cell plant address = sideBy (bestIn cell address) (bestIn plant address)
 
 -- "The lookup hands back the winning entry as part of whichever list held it, and an empty part of the cell list where neither holds
 -- the address": the bytes of the part,
@@ -98,3 +106,6 @@ directionOf Plant Cell = FromPlant
 directionOf Plant Plant = NotOurs
 directionOf Plant Neither = NotOurs
 directionOf Neither destination = NotOurs
+
+abbrev pub directionBetween : List ℕ → List ℕ → ℕ → ℕ → Direction
+directionBetween cell plant source destination = directionOf (sideOf cell plant source) (sideOf cell plant destination)

@@ -3,7 +3,7 @@
 ghost use mathlib.Core.Path.{_≡_};
 ghost use Prim.Native.Nat.{_+_, _*_, _-_, _<_, _≤_};
 ghost use lib.ListN.{length};
-ghost use Rattle.sides.specs.Lists.{badList, rankAt, bestIn, entryOf, past, winnerOf, winnerAt, winningOf, sideOf, directionOf};
+ghost use Rattle.sides.specs.Lists.{badList, rankAt, bestIn, bestOfTwo, entryOf, past, winnerOf, winnerAt, winningOf, sideBy, sideOf, directionOf, directionBetween};
 
 // The side that an address belongs to: outside, inside, or neither list holds it.
 pub enum Side {
@@ -24,6 +24,12 @@ pub enum Direction {
 pub struct Best {
     pub number: usize,
     pub rank: u8,
+}
+
+// What a list has for two addresses.
+pub struct BestOfTwo {
+    pub first: Best,
+    pub second: Best,
 }
 
 // Where the winning entry of an address stands: the side whose list has it, and its number there, from 1.
@@ -84,6 +90,39 @@ pub fn best_in(list: &[u8], address: u32) -> Best
     Best { number, rank: top }
 }
 
+// The same for two addresses, in one pass over the list.
+pub fn best_of_two(list: &[u8], first: u32, second: u32) -> BestOfTwo
+    ensures { λ r. ⌜ r ≡ bestOfTwo (now (list .entry)) first second ⌝ }
+{
+    let entries = list.len() / 5;
+    let mut first_number = 0;
+    let mut first_top = 0;
+    let mut second_number = 0;
+    let mut second_top = 0;
+    for k in 0..entries {
+        let first_found = rank(list, k, first);
+        if first_top < first_found {
+            first_top = first_found;
+            first_number = k + 1;
+        }
+        let second_found = rank(list, k, second);
+        if second_top < second_found {
+            second_top = second_found;
+            second_number = k + 1;
+        }
+    }
+    BestOfTwo {
+        first: Best {
+            number: first_number,
+            rank: first_top,
+        },
+        second: Best {
+            number: second_number,
+            rank: second_top,
+        },
+    }
+}
+
 // Entry `number`, counted from 1, as a part of its list.
 fn entry<'a>(list: &'a [u8], number: usize) -> &'a [u8]
     requires { ⌜ (0 < number) × (5 * number ≤ length (now list)) ⌝ }
@@ -115,18 +154,18 @@ pub fn winner<'a>(cell: &'a [u8], plant: &'a [u8], address: u32) -> &'a [u8]
 pub fn winning_entry(cell: &[u8], plant: &[u8], address: u32) -> Winning
     ensures { λ r. ⌜ r ≡ winningOf (now (cell .entry)) (now (plant .entry)) address ⌝ }
 {
-    let in_cell = best_in(cell, address);
-    let in_plant = best_in(plant, address);
-    if in_cell.rank < in_plant.rank {
+    let by_cell = best_in(cell, address);
+    let by_plant = best_in(plant, address);
+    if by_cell.rank < by_plant.rank {
         return Winning {
             side: Side::Plant,
-            number: in_plant.number,
+            number: by_plant.number,
         };
     }
-    if 0 < in_cell.rank {
+    if 0 < by_cell.rank {
         return Winning {
             side: Side::Cell,
-            number: in_cell.number,
+            number: by_cell.number,
         };
     }
     Winning {
@@ -135,19 +174,26 @@ pub fn winning_entry(cell: &[u8], plant: &[u8], address: u32) -> Winning
     }
 }
 
+// The side of an address, by what each list has for it.
+fn side_by(in_cell: Best, in_plant: Best) -> Side
+    ensures { λ r. ⌜ r ≡ sideBy in_cell in_plant ⌝ }
+{
+    if in_cell.rank < in_plant.rank {
+        return Side::Plant;
+    }
+    if 0 < in_cell.rank {
+        return Side::Cell;
+    }
+    Side::Neither
+}
+
 // The side that an address belongs to: whose list has the winning entry, or neither.
 pub fn side_of(cell: &[u8], plant: &[u8], address: u32) -> Side
     ensures { λ r. ⌜ r ≡ sideOf (now (cell .entry)) (now (plant .entry)) address ⌝ }
 {
-    let of_cell = best_in(cell, address).rank;
-    let of_plant = best_in(plant, address).rank;
-    if of_cell < of_plant {
-        return Side::Plant;
-    }
-    if 0 < of_cell {
-        return Side::Cell;
-    }
-    Side::Neither
+    let in_cell = best_in(cell, address);
+    let in_plant = best_in(plant, address);
+    side_by(in_cell, in_plant)
 }
 
 // The direction of a packet whose ends are on these sides: from the cell, from the plant, or not ours.
@@ -167,4 +213,15 @@ pub fn direction_of(source: Side, destination: Side) -> Direction
         },
         Side::Neither => Direction::NotOurs,
     }
+}
+
+// The direction of a packet between two addresses. Each list is passed once for both.
+pub fn direction_between(cell: &[u8], plant: &[u8], source: u32, destination: u32) -> Direction
+    ensures { λ r. ⌜ r ≡ directionBetween (now (cell .entry)) (now (plant .entry)) source destination ⌝ }
+{
+    let in_cell = best_of_two(cell, source, destination);
+    let in_plant = best_of_two(plant, source, destination);
+    let from = side_by(in_cell.first, in_plant.first);
+    let to = side_by(in_cell.second, in_plant.second);
+    direction_of(from, to)
 }

@@ -29,8 +29,8 @@ enum-known-number c = search needs
 enum-known-header : tie.Need-enum-known-header
 enum-known-header c = search needs
 
-direction-in-requires : tie.Need-direction-in-requires
-direction-in-requires c κs = search needs
+direction-between-requires : tie.Need-direction-between-requires
+direction-between-requires c κs = search needs
 
 accept-requires : tie.Need-accept-requires
 accept-requires c κs =
@@ -60,7 +60,7 @@ returns-3 c =
     judged-as document01 (s .args .set) (now (s .args .cell)) (now (s .args .plant)) (s .args .time) (now (s .args .packet))
     (stateOf (now (s .args .records)) (now (s .args .tags)) (now (s .args .counts)) (now (s .args .clock)))
     (sym (c .before .before .before .before .before .before .before .before .before .before .before .before .before .before .before .before .of-packet .ensures) ∙ c .before .before .before .before .before .before .before .before .before .before .before .before .before .before .before .if1 .left) (c .before .before .before .before .before .before .before .before .before .before .before .before .before .before .read .ensures) (c .before .before .before .before .before .before .before .before .before .before .before .before .header .given .1)
-    (c .before .before .before .before .before .before .before .before .before .before .direction-in .ensures) (c .before .before .before .before .before .accept .ensures)
+    (c .before .before .before .before .before .before .before .before .before .before .direction-between .ensures) (c .before .before .before .before .before .accept .ensures)
 
 pub judge-spec : {M : Type 1} → statement M
 judge-spec =
@@ -71,7 +71,7 @@ judge-spec =
     read-requires
     enum-known-number
     enum-known-header
-    direction-in-requires
+    direction-between-requires
     accept-requires
     returns-2
     same-length
