@@ -45,8 +45,8 @@ int main(void)
     struct spritgrommet_next next = {opening.refusal, 0, {0, 0, 0, 0, 0, 0}};
     unsigned number = 0, refusals = 0;
     while (!next.refusal && (next = spritgrommet_next(bytes, length, opening.cursor)).whole) {
-        if (number++ == 0)
-            spritgrommet_start(&gateway, next.record.seconds);
+        if (number++ == 0 && spritgrommet_start(&gateway, next.record.seconds))
+            return 1; /* settings and sizes are good, so that this is never reached */
         struct spritgrommet_answer answer =
             spritgrommet_frame(&gateway, next.record.seconds, bytes + next.record.from, next.record.captured);
         print_answer(number, answer);

@@ -2,11 +2,13 @@
  *
  * A gateway stands between a cell, which may be infected, and the plant. It judges each packet, and stops a machine of the cell that
  * keeps trying strangers. The caller owns all memory: settings, two side lists, the tables and the clock. A call that is refused changes
- * none of it. Nothing is allocated, no state is kept between calls, and calls on different memory may run at the same time.
+ * none of it. Nothing is allocated, and no state is kept between calls: memory that is only read may be shared, and memory that a call
+ * writes may be touched by no other thread meanwhile.
  *
  * What each call answers is proved for every input of the types below. What the prover cannot see is the caller's side of the boundary:
- * each pointer has to lead to as many elements as the length beside it says, written ones may not overlap any other, and none is null
- * (a length of 0 needs a pointer too, to anything).
+ * each pointer is aligned for its elements and leads to as many as the length beside it says, what is written overlaps nothing else that
+ * the call is lent, and none is null (a length of 0 needs a pointer too, to anything). The archive is for x86-64 Linux; use the header
+ * that stands beside it.
  *
  * Refusals: 0 where the call is not refused, and else
  *   1  a setting is outside its range
@@ -17,7 +19,8 @@
  *   6  the IP version isn't 4, header length below 5 words, or total length below header length
  *   7  capture header: short, magic not a1b2c3d4 in either byte order, version not 2.4, or link type not 1
  *   8  capture record cut off, or over 2,048 captured bytes
- * A call tests in rising number those for which it has an input; of a packet 5 and 6 come last, as its header is read.
+ * A call tests in rising number those for which it has an input, but header tests have their own order: fewer than 20 bytes, 5; then 6;
+ * then bytes fewer than the header length, 5; then transport. For frames, see `spritgrommet_frame`.
  */
 #ifndef SPRITGROMMET_H
 #define SPRITGROMMET_H
@@ -32,14 +35,15 @@ extern "C" {
 
 /* The settings. `spritgrommet_factory` has the factory's. */
 struct spritgrommet_settings {
-    uint32_t keys[8];   /* the round keys of the address permutation: any, and secret */
+    uint32_t keys[8];   /* the round keys of the address permutation; with the factory's zeros anyone can aim at a slot */
     uint16_t threshold; /* T, 1 to 255: an address is blocked when its count is at least this */
     int16_t floor;      /* Cmin, -1,000 to 0: no credit lowers a count below this */
     uint16_t dmiss;     /* Dmiss, 1 to 3,600 seconds: at each multiple every positive count falls by one */
     uint8_t dconn;      /* Dconn, 1 to 62 minutes: a connection record lives over so many minute boundaries */
 };
 
-/* A side list: entries of five bytes, an address, most significant byte first, then a prefix length. Up to 64 entries. */
+/* A side list: entries of five bytes, an address, most significant byte first, then a prefix length. Up to 64 entries; one without any
+ * has length 0, and a pointer to anything. */
 struct spritgrommet_list {
     const uint8_t *bytes;
     size_t length; /* in bytes */
@@ -90,11 +94,13 @@ struct spritgrommet_record {
     size_t end;
 };
 
+/* A capture opened. Where it is refused there is no cursor: its numbers are 0. */
 struct spritgrommet_opening {
     uint8_t refusal; /* 0 or 7 */
     struct spritgrommet_cursor cursor;
 };
 
+/* A record read. Where there is none its numbers are 0. */
 struct spritgrommet_next {
     uint8_t refusal; /* 0, or 8 where a record is cut off or too long */
     uint8_t whole;   /* 1 where there is a record, 0 where no byte is left or it is refused */
@@ -103,26 +109,32 @@ struct spritgrommet_next {
 
 /* ---- the functions of the archive, over plain numbers and lent memory ---- */
 
+/* The factory settings: T 10, Cmin -20, Dmiss 60, Dconn 10, keys all zero. */
 struct spritgrommet_settings spritgrommet_factory(void);
 
+/* `spritgrommet_start` below, over its parts. */
 uint8_t spritgrommet_cold_start(struct spritgrommet_settings settings, uint8_t *records, size_t record_count, uint32_t *tags,
                                 size_t tag_count, int16_t *counts, size_t count_count, uint32_t *clock, uint32_t time);
 
+/* `spritgrommet_time` below, over its parts. */
 uint8_t spritgrommet_pass(struct spritgrommet_settings settings, uint8_t *records, size_t record_count, uint32_t *tags, size_t tag_count,
                           int16_t *counts, size_t count_count, uint32_t *clock, uint32_t time);
 
+/* `spritgrommet_packet` below, over its parts. */
 struct spritgrommet_answer spritgrommet_judge(struct spritgrommet_settings settings, const uint8_t *cell, size_t cell_length,
                                               const uint8_t *plant, size_t plant_length, uint8_t *records, size_t record_count,
                                               uint32_t *tags, size_t tag_count, int16_t *counts, size_t count_count, uint32_t *clock,
                                               uint32_t time, const uint8_t *packet, size_t packet_length);
 
+/* `spritgrommet_frame` below, over its parts. */
 struct spritgrommet_answer spritgrommet_judge_frame(struct spritgrommet_settings settings, const uint8_t *cell, size_t cell_length,
                                                     const uint8_t *plant, size_t plant_length, uint8_t *records, size_t record_count,
                                                     uint32_t *tags, size_t tag_count, int16_t *counts, size_t count_count,
                                                     uint32_t *clock, uint32_t time, const uint8_t *frame, size_t frame_length);
 
 /* Which entry of the side lists decides on an address: the longest prefix that holds it; at equal length the cell list wins; inside a
- * list the first such entry. Lists that number 3 refuses are read as far as they have whole entries with prefix lengths up to 32. */
+ * list the first such entry. It is never refused: a list that number 3 refuses is read entry by entry all the same, where one with a prefix
+ * length over 32 holds no address and bytes after the last whole entry are ignored. */
 struct spritgrommet_winner spritgrommet_winner(const uint8_t *cell, size_t cell_length, const uint8_t *plant, size_t plant_length,
                                                uint32_t address);
 
@@ -130,10 +142,12 @@ struct spritgrommet_winner spritgrommet_winner(const uint8_t *cell, size_t cell_
 uint32_t spritgrommet_encrypt(const uint32_t keys[8], uint32_t word);
 uint32_t spritgrommet_decrypt(const uint32_t keys[8], uint32_t word);
 
-/* Adds an answer's verdict to seven totals, one for each verdict, that stop at 4,294,967,295. A refusal adds nothing. */
+/* Adds an answer's verdict to seven totals, one for each verdict, that stop at 4,294,967,295. A refusal adds nothing, nor does
+ * a verdict over 6, which no call answers. */
 void spritgrommet_tally(uint32_t totals[7], struct spritgrommet_answer answer);
 
-/* Reads the header of a capture that lies in memory, and then its records in turn: where one was read, the next starts at its `end`. */
+/* Reads the header of a capture that lies in memory, refused by 7, and then its records in turn, refused by 8: where one was read, the next
+ * starts at its `end`. At or past the last byte there is none left, and no refusal. */
 struct spritgrommet_opening spritgrommet_open(const uint8_t *bytes, size_t length);
 struct spritgrommet_next spritgrommet_next(const uint8_t *bytes, size_t length, struct spritgrommet_cursor cursor);
 
@@ -153,7 +167,8 @@ static inline uint8_t spritgrommet_time(struct spritgrommet *gateway, uint32_t t
                              gateway->counts, gateway->entry_count, &gateway->clock, time);
 }
 
-/* Judges a packet, from its IPv4 header on, that comes at a time. Forward it where the answer has no refusal and a verdict below 5. */
+/* Judges a packet, from its IPv4 header on, that comes at a time. Answers a refusal, 1 to 6, or the verdict: 5 and 6 are dropped, 1 to 4
+ * forwarded; 0 is not the gateway's to judge. */
 static inline struct spritgrommet_answer spritgrommet_packet(struct spritgrommet *gateway, uint32_t time, const uint8_t *packet,
                                                              size_t length)
 {
@@ -163,7 +178,7 @@ static inline struct spritgrommet_answer spritgrommet_packet(struct spritgrommet
 }
 
 /* The same for an Ethernet frame. One under 14 bytes is refused by 5, and an EtherType other than 0x0800 gets verdict 0; neither reaches
- * the gateway, whose clock stays, and for these two nothing else is tested. */
+ * the gateway, whose clock stays, and for these two no other number is tested. */
 static inline struct spritgrommet_answer spritgrommet_frame(struct spritgrommet *gateway, uint32_t time, const uint8_t *frame,
                                                             size_t length)
 {

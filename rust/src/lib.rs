@@ -1,8 +1,14 @@
 //! The proved gateway, for programs in Rust: a safe wrapper over the archive that `rt staticlib embed` writes. Nothing is decided here;
 //! include/spritgrommet.h says what each call does in document 01's words.
+//!
+//! `rt staticlib embed`, and then in a program's Cargo.toml `spritgrommet = { path = ".../rust" }`. The archive is looked for in
+//! target/staticlib, or in the folder that SPRITGROMMET_LIB names. `cargo test` here needs it too.
 
 mod capture;
 mod raw;
+
+use std::error::Error;
+use std::fmt;
 
 pub use capture::{Capture, Record};
 
@@ -34,6 +40,14 @@ impl Settings {
 #[derive(Clone, Copy, Debug, PartialEq, Eq)]
 pub struct Refusal(pub u8);
 
+impl fmt::Display for Refusal {
+    fn fmt(&self, out: &mut fmt::Formatter) -> fmt::Result {
+        write!(out, "refused by {}", self.0)
+    }
+}
+
+impl Error for Refusal {}
+
 /// The verdicts, by their words in document 01.
 #[derive(Clone, Copy, Debug, PartialEq, Eq)]
 pub enum Verdict {
@@ -57,9 +71,9 @@ impl Verdict {
         Verdict::Blocked,
     ];
 
-    /// Whether the packet is to be forwarded.
-    pub fn is_forwarded(self) -> bool {
-        !matches!(self, Verdict::Hygiene | Verdict::Blocked)
+    /// Whether the packet is to be dropped. One that is not ours is not the gateway's to judge.
+    pub fn is_dropped(self) -> bool {
+        matches!(self, Verdict::Hygiene | Verdict::Blocked)
     }
 }
 
@@ -90,11 +104,8 @@ fn answer_of(plain: raw::PlainAnswer) -> Result<Answer, Refusal> {
 
 /// Adds an answer's verdict to seven totals, one for each verdict, that stop at 4,294,967,295. A refusal adds nothing.
 pub fn tally(totals: &mut [u32; 7], answer: &Result<Answer, Refusal>) {
-    let (refusal, verdict) = match answer {
-        Ok(answer) => (0, answer.verdict as u8),
-        Err(Refusal(number)) => (*number, 0),
-    };
-    let plain = raw::PlainAnswer { refusal, verdict, count: 0, replaced: 0, address: 0 };
+    let Ok(answer) = answer else { return };
+    let plain = raw::PlainAnswer { refusal: 0, verdict: answer.verdict as u8, count: 0, replaced: 0, address: 0 };
     // SAFETY: the pointer leads to seven totals, lent for writing.
     unsafe { raw::spritgrommet_tally(totals.as_mut_ptr(), plain) }
 }
@@ -185,7 +196,7 @@ impl Gateway {
         unless_refused(refusal).map(|()| gateway)
     }
 
-    /// The time of the last call that was not refused.
+    /// The gateway's clock: the time of the start, or of the last time or packet that reached it.
     pub fn clock(&self) -> u32 {
         self.clock
     }

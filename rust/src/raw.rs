@@ -1,4 +1,4 @@
-//! The functions of the archive as they are, over plain numbers and lent memory: the one place where this crate is not safe Rust.
+//! The functions of the archive as they are, over plain numbers and lent memory: the declarations behind every `unsafe` of this crate.
 //! include/spritgrommet.h says the same for C. A slice crosses as its start and its length.
 
 use crate::Settings;

@@ -1,5 +1,5 @@
 -- Plain numbers keep all of an answer: there is a way back from them, and the tally takes from them the verdict that it takes from the
--- answer. A refusal's number is never 0.
+-- answer. For this the number of a refusal has to tell it from none, and of every packet and every frame it does.
 -- Assumes nothing.
 use mathlib.Core.Bool.{cond}
 use mathlib.Core.List.{List}
@@ -14,6 +14,13 @@ use Rattle.rulings.specs.declared.answers.Replacement.the-variants.{None, Addre
 use Rattle.rulings.specs.declared.answers.Answer.{Answer}
 use Rattle.rulings.specs.declared.answers.Answer.the-variants.{Refused, NotOurs, Judged}
 use Rattle.rulings.specs.Answers.{verdictTold}
+use Rattle.rulings.specs.Rules.{Rules}
+use Rattle.settings.specs.declared.Settings.{Settings}
+use Rattle.gateway.specs.Calls.{State, After, judged}
+use Rattle.gateway.proofs.Refusals.{Numbered, packet-numbered}
+use Rattle.frames.specs.declared.Inside.{Inside}
+use Rattle.frames.specs.declared.Inside.the-variants.{Short, Packet, Other}
+use Rattle.frames.specs.Frames.{carried, insideOf, byInside, frameJudged}
 use Rattle.tally.specs.Tally.{tallied, verdictNumbered}
 use Rattle.tally.proofs.Totals.{is-numbered}
 use Rattle.embed.specs.declared.plain.PlainAnswer.{PlainAnswer}
@@ -56,24 +63,38 @@ judged-back Blocked c None = refl
 judged-back Blocked c (Address a) = refl
 
 -- so that two answers with the same numbers are one
-pub comes-back : (a : Answer) → (a ≡ Refused 0 → ⊥) → answerBack (plainAnswer a) ≡ a
+pub comes-back : (a : Answer) → Numbered a → answerBack (plainAnswer a) ≡ a
 unfolding answerBack refusedBack judgedBack
-comes-back (Refused zero) not-zero = absurd (not-zero refl)
-comes-back (Refused (suc n)) not-zero = refl
-comes-back NotOurs not-zero = refl
-comes-back (Judged v c replaced) not-zero = judged-back v c replaced
+comes-back (Refused zero) numbered = absurd numbered
+comes-back (Refused (suc n)) numbered = refl
+comes-back NotOurs numbered = refl
+comes-back (Judged v c replaced) numbered = judged-back v c replaced
 
 -- ---- what the tally takes
 judged-verdict : (v : Verdict) (c : ℤ) (replaced : Replacement) → verdictIn (plainAnswer (Judged v c replaced)) ≡ verdictTold (Judged v c replaced)
 judged-verdict v c None = is-numbered v
 judged-verdict v c (Address a) = is-numbered v
 
-pub same-verdict : (a : Answer) → (a ≡ Refused 0 → ⊥) → verdictIn (plainAnswer a) ≡ verdictTold a
+pub same-verdict : (a : Answer) → Numbered a → verdictIn (plainAnswer a) ≡ verdictTold a
 unfolding verdictNumbered
-same-verdict (Refused zero) not-zero = absurd (not-zero refl)
-same-verdict (Refused (suc n)) not-zero = refl
-same-verdict NotOurs not-zero = refl
-same-verdict (Judged v c replaced) not-zero = judged-verdict v c replaced
+same-verdict (Refused zero) numbered = absurd numbered
+same-verdict (Refused (suc n)) numbered = refl
+same-verdict NotOurs numbered = refl
+same-verdict (Judged v c replaced) numbered = judged-verdict v c replaced
+
+-- ---- every answer that crosses has such a number
+module _ (rules : Settings → Rules) (settings : Settings) (cell plant : List ℕ) (time : ℕ) (before : State) where
+  pub of-packets : (bytes : List ℕ) → answerBack (plainAnswer (judged rules settings cell plant time bytes before .answer)) ≡ judged rules settings cell plant time bytes before .answer
+  of-packets bytes = comes-back _ (packet-numbered settings time before rules cell plant bytes)
+
+  frame-numbered : (i : Inside) (after : After Answer) → Numbered (after .answer) → Numbered (byInside i before after .answer)
+  frame-numbered Short after done = tt
+  frame-numbered Packet after done = done
+  frame-numbered Other after done = tt
+
+  pub of-frames : (frame : List ℕ) → answerBack (plainAnswer (frameJudged rules settings cell plant time frame before .answer)) ≡ frameJudged rules settings cell plant time frame before .answer
+  unfolding frameJudged
+  of-frames frame = comes-back _ (frame-numbered (insideOf frame) _ (packet-numbered settings time before rules cell plant (carried frame)))
 
 module _ (totals : List ℕ) (verdict : ℕ) where
   pub refused-adds-none : (refusal : ℕ) → (refusal ≡ 0 → ⊥) → totalsAfter totals (byRefusal refusal verdict) ≡ totals

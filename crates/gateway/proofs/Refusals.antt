@@ -8,6 +8,8 @@ use Rattle.packet.specs.declared.Header.{Header}
 use Rattle.sides.specs.declared.Direction.{Direction}
 use Rattle.sides.specs.declared.Direction.the-variants.{FromCell, FromPlant, NotOurs}
 use Rattle.tables.specs.Tables.{Tables}
+use Rattle.rulings.specs.declared.answers.Answer.{Answer}
+use Rattle.rulings.specs.declared.answers.Answer.the-variants.{Refused, NotOurs as NotOurs′, Judged}
 use Rattle.rulings.specs.Answers.{refusalTold}
 use Rattle.rulings.specs.Rules.{Rules}
 use Rattle.gateway.specs.Packets.{ours, byDirection}
@@ -22,6 +24,17 @@ module _ {A : Type 0} (tell : A → ℕ) (refused : ℕ → A) (before : State) 
   kept : (number : ℕ) → (number ≡ 0 → ⊥) → unlessRefused refused number before after .state ≡ before
   kept zero ne = absurd (ne refl)
   kept (suc n) ne = refl
+
+-- ---- the number of a refusal is never 0, which stands for none
+abbrev pub Numbered : Answer → Type 0
+Numbered (Refused zero) = ⊥
+Numbered (Refused (suc n)) = Unit {0}
+Numbered NotOurs′ = Unit {0}
+Numbered (Judged verdict count replaced) = Unit {0}
+
+numbered : (before : State) (after : After Answer) → Numbered (after .answer) → (number : ℕ) → Numbered (unlessRefused Refused number before after .answer)
+numbered before after done zero = done
+numbered before after done (suc n) = tt
 
 module _ (settings : Settings) (time : ℕ) (before : State) where
   pub start-told : refusalIn (started settings time before .answer) ≡ startRefusalAt settings before
@@ -48,7 +61,17 @@ module _ (settings : Settings) (time : ℕ) (before : State) where
     not-told h FromPlant tables = refl
     not-told h NotOurs tables = refl
 
+    not-numbered : (h : Header) (direction : Direction) (tables : Tables) → Numbered (byDirection rules settings h direction tables .answer)
+    unfolding byDirection ours
+    not-numbered h FromCell tables = tt
+    not-numbered h FromPlant tables = tt
+    not-numbered h NotOurs tables = tt
+
     module _ (cell plant bytes : List ℕ) where
+      pub packet-numbered : Numbered (judged rules settings cell plant time bytes before .answer)
+      unfolding judged
+      packet-numbered = numbered before _ (not-numbered _ _ _) (packetRefusal settings cell plant time bytes before)
+
       pub packet-told : refusalTold (judged rules settings cell plant time bytes before .answer) ≡ packetRefusal settings cell plant time bytes before
       unfolding judged
       packet-told = told refusalTold _ before _ (λ n. refl) (not-told _ _ _) (packetRefusal settings cell plant time bytes before)

@@ -9,7 +9,7 @@ use Rattle.settings.specs.declared.Settings.{Settings}
 use Rattle.packet.specs.declared.Header.{Header}
 use Rattle.sides.specs.declared.Direction.{Direction}
 use Rattle.sides.specs.declared.Direction.the-variants.{FromCell, FromPlant, NotOurs}
-use Rattle.sides.specs.Lists.{sideOf, directionOf}
+use Rattle.sides.specs.Lists.{directionBetween}
 use Rattle.places.specs.declared.Place.{Place}
 use Rattle.places.specs.Places.{placeOf, addressOf}
 use Rattle.entries.specs.declared.Replaced.{Replaced}
@@ -82,7 +82,7 @@ ours rules settings h fromPlant before = settled (settings .keys) spot (rulingAt
 
 -- ---- any packet, by both side lists
 abbrev pub directionIn : List ℕ → List ℕ → Header → Direction
-directionIn cell plant h = directionOf (sideOf cell plant (h .source)) (sideOf cell plant (h .destination))
+directionIn cell plant h = directionBetween cell plant (h .source) (h .destination)
 
 -- "A packet is ours when one end is cell and the other plant": from either of them
 abbrev pub isOurs : Direction → Bool

@@ -2,7 +2,7 @@
 ghost use mathlib.Core.Path.{_≡_};
 ghost use Rattle.places.specs.Places.{slotOf, placeOf, addressOf};
 
-// The slot of a connection among a number of records. Any word may stand in the port's place.
+// The slot of a connection among a number of records; among none, the word itself. Any word may stand in the port's place.
 pub fn slot(keys: &[u32; 8], plant: u32, cell: u32, port: u32, records: u32) -> u32
     ensures { λ r. ⌜ r ≡ slotOf (now (keys .entry)) plant cell port records ⌝ }
 {
@@ -20,7 +20,7 @@ pub struct Place {
     pub tag: u32,
 }
 
-// The line and tag of an address among a number of lines.
+// The line and tag of an address among a number of lines; with none, the word itself and tag 0.
 pub fn place_of(keys: &[u32; 8], address: u32, lines: u32) -> Place
     ensures { λ r. ⌜ r ≡ placeOf (now (keys .entry)) address lines ⌝ }
 {
@@ -34,7 +34,7 @@ pub fn place_of(keys: &[u32; 8], address: u32, lines: u32) -> Place
     }
 }
 
-// The address that a line and a tag name.
+// The address that a line and a tag name among a number of lines; with none, that of the line as a word.
 pub fn address_of(keys: &[u32; 8], place: Place, lines: u32) -> u32
     ensures { λ r. ⌜ r ≡ addressOf (now (keys .entry)) place lines ⌝ }
 {

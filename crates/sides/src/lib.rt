@@ -90,7 +90,7 @@ pub fn best_in(list: &[u8], address: u32) -> Best
     Best { number, rank: top }
 }
 
-// The same for two addresses, in one pass over the list.
+// What a list has for each of two addresses, as `best_in` tells it, in one pass over the list.
 pub fn best_of_two(list: &[u8], first: u32, second: u32) -> BestOfTwo
     ensures { λ r. ⌜ r ≡ bestOfTwo (now (list .entry)) first second ⌝ }
 {

@@ -36,7 +36,7 @@ fn fits_entries(entries: usize) -> bool
     (entries == 4) | ((entries == 8) | fits_records(entries))
 }
 
-// Whether some table's length is not one that it may have, or those of tags and counts differ.
+// Refusal 2: whether some table's length is not one that it may have, or those of tags and counts differ.
 pub fn bad_sizes(records: usize, tags: usize, counts: usize) -> bool
     ensures { λ r. ⌜ r ≡ badSizes records tags counts ⌝ }
 {

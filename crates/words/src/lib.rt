@@ -17,7 +17,8 @@ pub fn of_four(first: u8, second: u8, third: u8, fourth: u8) -> u32
     (first as u32) * 16777216 + (second as u32) * 65536 + (third as u32) * 256 + (fourth as u32)
 }
 
-// The number that the two bytes at a place make, the most significant first where big_endian, and else the least.
+// The number that the two bytes at a place make, the most significant first where big_endian, and else the least; 0 where they are not
+// all there.
 pub fn two_in(bytes: &[u8], at: usize, big_endian: bool) -> u16
     ensures { λ r. ⌜ r ≡ whole 2 (twoIn «big_endian») (now (bytes .entry)) at ⌝ }
 {
@@ -33,7 +34,8 @@ pub fn two_in(bytes: &[u8], at: usize, big_endian: bool) -> u16
     of_two(bytes[at + 1], bytes[at])
 }
 
-// The number that the four bytes at a place make, the most significant first where big_endian, and else the least.
+// The number that the four bytes at a place make, the most significant first where big_endian, and else the least; 0 where they are not
+// all there.
 pub fn four_in(bytes: &[u8], at: usize, big_endian: bool) -> u32
     ensures { λ r. ⌜ r ≡ whole 4 (fourIn «big_endian») (now (bytes .entry)) at ⌝ }
 {
@@ -49,14 +51,14 @@ pub fn four_in(bytes: &[u8], at: usize, big_endian: bool) -> u32
     of_four(bytes[at + 3], bytes[at + 2], bytes[at + 1], bytes[at])
 }
 
-// The number that the two bytes at a place make, the most significant first.
+// The number that the two bytes at a place make, the most significant first; 0 where they are not all there.
 pub fn two_at(bytes: &[u8], at: usize) -> u16
     ensures { λ r. ⌜ r ≡ whole 2 twoAt (now (bytes .entry)) at ⌝ }
 {
     two_in(bytes, at, true)
 }
 
-// The number that the four bytes at a place make, the most significant first.
+// The number that the four bytes at a place make, the most significant first; 0 where they are not all there.
 pub fn four_at(bytes: &[u8], at: usize) -> u32
     ensures { λ r. ⌜ r ≡ whole 4 fourAt (now (bytes .entry)) at ⌝ }
 {

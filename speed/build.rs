@@ -1,0 +1,25 @@
+//! Compiles the plain C part, and links it and the proved gateway's archive, which `rt staticlib embed` leaves in target/.
+
+use std::process::Command;
+use std::{env, path::Path};
+
+fn main() {
+    let here = env::var("CARGO_MANIFEST_DIR").unwrap();
+    let out = env::var("OUT_DIR").unwrap();
+    let (source, object) = (format!("{here}/src/plain.c"), format!("{out}/plain_c.o"));
+    run("gcc", &["-std=c11", "-O3", "-Wall", "-Wextra", "-c", &source, "-o", &object]);
+    run("ar", &["crs", &format!("{out}/libplain_c.a"), &object]);
+
+    let gateway = Path::new(&here).join("../target/staticlib");
+    println!("cargo:rerun-if-changed={source}");
+    println!("cargo:rerun-if-changed={}", gateway.join("libembed.a").display());
+    println!("cargo:rustc-link-search=native={}", gateway.display());
+    println!("cargo:rustc-link-search=native={out}");
+    println!("cargo:rustc-link-lib=static=embed");
+    println!("cargo:rustc-link-lib=static=plain_c");
+}
+
+fn run(program: &str, words: &[&str]) {
+    let status = Command::new(program).args(words).status();
+    assert!(status.is_ok_and(|status| status.success()), "{program} {words:?} failed");
+}
