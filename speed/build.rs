@@ -1,7 +1,7 @@
-//! Compiles the plain C part, and links it and the proved gateway's archive, which `rt staticlib embed` leaves in target/.
+//! Compiles the plain C part, and links it. The wrapper in rust/ links the proved gateway.
 
+use std::env;
 use std::process::Command;
-use std::{env, path::Path};
 
 fn main() {
     let here = env::var("CARGO_MANIFEST_DIR").unwrap();
@@ -10,12 +10,8 @@ fn main() {
     run("gcc", &["-std=c11", "-O3", "-Wall", "-Wextra", "-c", &source, "-o", &object]);
     run("ar", &["crs", &format!("{out}/libplain_c.a"), &object]);
 
-    let gateway = Path::new(&here).join("../target/staticlib");
     println!("cargo:rerun-if-changed={source}");
-    println!("cargo:rerun-if-changed={}", gateway.join("libembed.a").display());
-    println!("cargo:rustc-link-search=native={}", gateway.display());
     println!("cargo:rustc-link-search=native={out}");
-    println!("cargo:rustc-link-lib=static=embed");
     println!("cargo:rustc-link-lib=static=plain_c");
 }
 

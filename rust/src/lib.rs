@@ -5,7 +5,7 @@
 //! target/staticlib, or in the folder that SPRITGROMMET_LIB names. `cargo test` here needs it too.
 
 mod capture;
-mod raw;
+pub mod raw;
 
 use std::error::Error;
 use std::fmt;
@@ -111,12 +111,14 @@ pub fn tally(totals: &mut [u32; 7], answer: &Result<Answer, Refusal>) {
 }
 
 /// The address permutation E of a word.
+#[inline]
 pub fn encrypt(keys: &[u32; 8], word: u32) -> u32 {
     // SAFETY: the pointer leads to eight keys.
     unsafe { raw::spritgrommet_encrypt(keys.as_ptr(), word) }
 }
 
 /// The inverse of E.
+#[inline]
 pub fn decrypt(keys: &[u32; 8], word: u32) -> u32 {
     // SAFETY: as for `encrypt`.
     unsafe { raw::spritgrommet_decrypt(keys.as_ptr(), word) }
@@ -222,34 +224,19 @@ impl Gateway {
 
     /// Judges a packet, from its IPv4 header on, that comes at a time. Refused by 3 to 6.
     pub fn packet(&mut self, time: u32, packet: &[u8]) -> Result<Answer, Refusal> {
-        // SAFETY: as in `start`; lists and packet are lent for reading, and overlap nothing that is written.
-        answer_of(unsafe {
-            raw::spritgrommet_judge(
-                self.settings,
-                self.cell.as_ptr(),
-                self.cell.len(),
-                self.plant.as_ptr(),
-                self.plant.len(),
-                self.records.as_mut_ptr(),
-                self.records.len(),
-                self.tags.as_mut_ptr(),
-                self.tags.len(),
-                self.counts.as_mut_ptr(),
-                self.counts.len(),
-                &mut self.clock,
-                time,
-                packet.as_ptr(),
-                packet.len(),
-            )
-        })
+        self.judged(raw::spritgrommet_judge, time, packet)
     }
 
     /// Judges what an Ethernet frame that comes at a time carries. One under 14 bytes is refused by 5, and an EtherType other than 0x0800
     /// gets verdict 0; neither reaches the gateway.
     pub fn frame(&mut self, time: u32, frame: &[u8]) -> Result<Answer, Refusal> {
-        // SAFETY: as for `packet`.
+        self.judged(raw::spritgrommet_judge_frame, time, frame)
+    }
+
+    fn judged(&mut self, judge: raw::Judge, time: u32, bytes: &[u8]) -> Result<Answer, Refusal> {
+        // SAFETY: as in `start`; lists and bytes are lent for reading, and overlap nothing that is written.
         answer_of(unsafe {
-            raw::spritgrommet_judge_frame(
+            judge(
                 self.settings,
                 self.cell.as_ptr(),
                 self.cell.len(),
@@ -263,8 +250,8 @@ impl Gateway {
                 self.counts.len(),
                 &mut self.clock,
                 time,
-                frame.as_ptr(),
-                frame.len(),
+                bytes.as_ptr(),
+                bytes.len(),
             )
         })
     }

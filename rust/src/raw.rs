@@ -1,5 +1,6 @@
 //! The functions of the archive as they are, over plain numbers and lent memory: the declarations behind every `unsafe` of this crate.
-//! include/spritgrommet.h says the same for C. A slice crosses as its start and its length.
+//! include/spritgrommet.h says the same for C, and what a caller has to keep to; it is public for who lends memory of his own. A slice
+//! crosses as its start and its length.
 
 use crate::Settings;
 
@@ -50,6 +51,25 @@ pub struct PlainNext {
     pub whole: u8,
     pub read: PlainRecord,
 }
+
+/// What judges a packet and what judges a frame take and answer.
+pub type Judge = unsafe extern "C" fn(
+    settings: Settings,
+    cell: *const u8,
+    cell_length: usize,
+    plant: *const u8,
+    plant_length: usize,
+    records: *mut u8,
+    record_count: usize,
+    tags: *mut u32,
+    tag_count: usize,
+    counts: *mut i16,
+    count_count: usize,
+    clock: *mut u32,
+    time: u32,
+    bytes: *const u8,
+    length: usize,
+) -> PlainAnswer;
 
 extern "C" {
     pub fn spritgrommet_factory() -> Settings;

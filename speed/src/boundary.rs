@@ -1,6 +1,6 @@
 //! Table 3: a minute boundary over all records.
 
-use crate::ours::{self, Settings};
+use crate::ours::{self, Settings, TIMED};
 use crate::plain;
 use crate::stopwatch::{commas, head, in_turn, ratio, row, timed};
 use crate::trace::Random;
@@ -13,7 +13,7 @@ const TABLES: [(usize, u32); 6] = [(16, 20), (4_096, 20), (65_536, 20), (LARGEST
 const BYTES: usize = 65_536;
 /// Boundaries that each table passes in a round.
 const MINUTES: u32 = 16;
-const SETTINGS: Settings = Settings { dmiss: 3_600, dconn: 62, ..Settings::TIMED };
+const SETTINGS: Settings = Settings { dmiss: 3_600, dconn: 62, ..TIMED };
 const NOTES: &str = "\
     Each table passes 16 boundaries in a round, one to a call. Before the round, outside of the timed part, so many of its \
     records are marked at random with ages 0 to 62, the rest are 0; so the tables are warm. Of the marked ones a quarter \

@@ -3,7 +3,7 @@
 use crate::boundary::{sweep_some, LARGEST};
 use crate::cipher;
 use crate::judging::{self, judge_some};
-use crate::ours::{self, Settings};
+use crate::ours::{self, TIMED};
 use crate::stopwatch::{head, row};
 use crate::trace::KINDS;
 use std::hint::black_box;
@@ -21,7 +21,7 @@ const BOUNDARY_NOTES: &str = "\
 /// Inlined, so that each program is called directly.
 #[inline(always)]
 fn encrypt_often(times: usize, e: impl Fn(&[u32; 8], u32) -> u32) {
-    let keys = &black_box(Settings::TIMED.keys);
+    let keys = &black_box(TIMED.keys);
     black_box((0..times).fold(1, |word, _| e(keys, word)));
 }
 

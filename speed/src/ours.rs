@@ -1,60 +1,20 @@
 //! The proved gateway's calls that are timed, and memory to lend them. include/spritgrommet.h says what they do.
 
 use crate::judging::{Judge, Left, Told};
+use spritgrommet::raw::{self, PlainAnswer};
 
-#[repr(C)]
-#[derive(Clone, Copy)]
-pub struct Settings {
-    pub keys: [u32; 8],
-    pub threshold: u16,
-    pub floor: i16,
-    pub dmiss: u16,
-    pub dconn: u8,
-}
+pub use spritgrommet::Settings;
 
-impl Settings {
-    /// The factory values, but with keys: with none, some additions would cost nothing.
-    pub const TIMED: Settings = Settings {
-        threshold: 10,
-        floor: -20,
-        dmiss: 60,
-        dconn: 10,
-        keys: [0x243f_6a88, 0x85a3_08d3, 0x1319_8a2e, 0x0370_7344, 0xa409_3822, 0x299f_31d0, 0x082e_fa98, 0xec4e_6c89],
-    };
-}
+/// The factory values, but with keys: with none, some additions would cost nothing.
+pub const TIMED: Settings = Settings {
+    threshold: 10,
+    floor: -20,
+    dmiss: 60,
+    dconn: 10,
+    keys: [0x243f_6a88, 0x85a3_08d3, 0x1319_8a2e, 0x0370_7344, 0xa409_3822, 0x299f_31d0, 0x082e_fa98, 0xec4e_6c89],
+};
 
-#[repr(C)]
-pub struct Answer {
-    pub refusal: u8,
-    pub verdict: u8,
-    pub count: i16,
-    pub replaced: u8,
-    pub address: u32,
-}
-
-#[rustfmt::skip]
-extern "C" {
-    fn spritgrommet_encrypt(keys: *const [u32; 8], word: u32) -> u32;
-    fn spritgrommet_cold_start(
-        set: Settings, records: *mut u8, records_len: usize, tags: *mut u32, tags_len: usize,
-        counts: *mut i16, counts_len: usize, clock: *mut u32, time: u32,
-    ) -> u8;
-    fn spritgrommet_pass(
-        set: Settings, records: *mut u8, records_len: usize, tags: *mut u32, tags_len: usize,
-        counts: *mut i16, counts_len: usize, clock: *mut u32, time: u32,
-    ) -> u8;
-    fn spritgrommet_judge(
-        set: Settings, cell: *const u8, cell_len: usize, plant: *const u8, plant_len: usize,
-        records: *mut u8, records_len: usize, tags: *mut u32, tags_len: usize,
-        counts: *mut i16, counts_len: usize, clock: *mut u32, time: u32, packet: *const u8, packet_len: usize,
-    ) -> Answer;
-}
-
-#[inline]
-pub fn encrypt(keys: &[u32; 8], word: u32) -> u32 {
-    // SAFETY: it reads the eight keys alone.
-    unsafe { spritgrommet_encrypt(keys, word) }
-}
+pub use spritgrommet::encrypt;
 
 /// Passes a time over lent tables. The answer is the number of a refusal, or 0.
 #[rustfmt::skip]
@@ -62,7 +22,7 @@ pub fn encrypt(keys: &[u32; 8], word: u32) -> u32 {
 pub fn pass(set: &Settings, records: &mut [u8], tags: &mut [u32], counts: &mut [i16], clock: &mut u32, time: u32) -> u8 {
     // SAFETY: each length is its slice's, and nothing is lent twice.
     unsafe {
-        spritgrommet_pass(
+        raw::spritgrommet_pass(
             *set, records.as_mut_ptr(), records.len(), tags.as_mut_ptr(), tags.len(),
             counts.as_mut_ptr(), counts.len(), clock, time,
         )
@@ -90,13 +50,13 @@ impl Caller {
 
 #[rustfmt::skip]
 impl Judge for Caller {
-    type Answer = Answer;
+    type Answer = PlainAnswer;
 
     fn cold_start(&mut self, time: u32) {
         let Caller { settings, records, tags, counts, clock, .. } = self;
         // SAFETY: each length is its slice's, and nothing is lent twice.
         let refusal = unsafe {
-            spritgrommet_cold_start(
+            raw::spritgrommet_cold_start(
                 *settings, records.as_mut_ptr(), records.len(), tags.as_mut_ptr(), tags.len(),
                 counts.as_mut_ptr(), counts.len(), clock, time,
             )
@@ -105,11 +65,11 @@ impl Judge for Caller {
     }
 
     #[inline]
-    fn judge(&mut self, time: u32, packet: &[u8]) -> Answer {
+    fn judge(&mut self, time: u32, packet: &[u8]) -> PlainAnswer {
         let Caller { settings, cell, plant, records, tags, counts, clock } = self;
         // SAFETY: each length is its slice's, and nothing is lent twice.
         unsafe {
-            spritgrommet_judge(
+            raw::spritgrommet_judge(
                 *settings, cell.as_ptr(), cell.len(), plant.as_ptr(), plant.len(),
                 records.as_mut_ptr(), records.len(), tags.as_mut_ptr(), tags.len(),
                 counts.as_mut_ptr(), counts.len(), clock, time, packet.as_ptr(), packet.len(),
@@ -117,7 +77,7 @@ impl Judge for Caller {
         }
     }
 
-    fn told(answer: Answer) -> Told {
+    fn told(answer: PlainAnswer) -> Told {
         (answer.refusal, answer.verdict, answer.count, (answer.replaced == 1).then_some(answer.address))
     }
 

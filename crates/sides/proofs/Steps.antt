@@ -1,16 +1,19 @@
 -- Laws of `rankAt`, `bestIn` and `decided`, for the proofs of the code: each from a fact that a branch leaves.
 -- Assumes nothing.
-use mathlib.Core.Path.{_≡_, refl}
+use mathlib.Core.Bool.{Bool, true, false, cond}
+use mathlib.Core.Path.{_≡_, refl, sym, ap, subst, _∙_}
 use mathlib.Core.List.{List}
 use Prim.Native.Nat.{ℕ, zero, suc, _+_, _*_, _-_, _/_, _^_, _≤_, _<_}
 use native.Mathlib.Omega.{arith}
 use native.Mathlib.Numerals.{add-one}
-use lib.Dec.{leb}
+use lib.Dec.{leb, ltb}
 use lib.ListN.{length}
-use borrow.Author.Tests.{lt-ltb, le-ltb, lt-leb, le-leb, eq-eqb, ne-eqb}
+use borrow.Author.Tests.{lt-ltb, le-ltb, ltb-true, lt-leb, le-leb, eq-eqb, ne-eqb}
 use Rattle.laws.proofs.Search.{Leading, by-size, lead-start, lead-found, lead-kept, lead-end, lead-is}
 use Rattle.sides.specs.declared.Best.{Best}
-use Rattle.sides.specs.Lists.{entries, netAt, prefixAt, holds, rankAt, rankOf, bestNumber, bestIn, decided}
+use Rattle.sides.specs.declared.Side.{Side}
+use Rattle.sides.specs.declared.Side.the-variants.{Cell, Plant, Neither}
+use Rattle.sides.specs.Lists.{entries, netAt, prefixAt, holds, rankAt, rankOf, bestNumber, bestIn, decided, sideBy}
 
 -- ---- the rank of an entry
 module _ (l : List ℕ) (address k : ℕ) where
@@ -93,3 +96,46 @@ module _ {A : Type 0} (ofCell ofPlant : Best) (cell plant neither : A) where
   pub to-neither : ofPlant .rank ≤ ofCell .rank → ofCell .rank ≤ 0 → neither ≡ decided ofCell ofPlant cell plant neither
   unfolding decided
   to-neither h k = rw (le-ltb _ _ h, le-ltb _ _ k)
+
+-- ---- what a side was decided by
+-- what is made of a decision is decided alike
+pub made : {A B : Type 0} (f : A → B) (inCell inPlant : Best) (cell plant neither : A)
+    → decided inCell inPlant (f cell) (f plant) (f neither) ≡ f (decided inCell inPlant cell plant neither)
+unfolding decided
+made f inCell inPlant cell plant neither = by (ltb (inCell .rank) (inPlant .rank)) (ltb 0 (inCell .rank))
+  where
+    by : (p c : Bool) → cond p (f plant) (cond c (f cell) (f neither)) ≡ f (cond p plant (cond c cell neither))
+    by true c = refl
+    by false true = refl
+    by false false = refl
+
+-- what a side picks of three
+abbrev pub picked {ℓ} : {A : Type ℓ} → A → A → A → Side → A
+picked cell plant neither Cell = cell
+picked cell plant neither Plant = plant
+picked cell plant neither Neither = neither
+
+module _ (inCell inPlant : Best) where
+  pub on-side : {A : Type 0} (cell plant neither : A) {s : Side} → s ≡ sideBy inCell inPlant
+      → picked cell plant neither s ≡ decided inCell inPlant cell plant neither
+  on-side cell plant neither e =
+      ap (picked cell plant neither) e ∙ sym (made (picked cell plant neither) inCell inPlant Cell Plant Neither)
+
+  -- an address on a side is held by an entry of that side's list
+  pub cell-holds : Cell ≡ sideBy inCell inPlant → 0 < inCell .rank
+  unfolding decided
+  cell-holds e = go (ltb (inCell .rank) (inPlant .rank)) (ltb 0 (inCell .rank)) refl e
+    where
+      go : (p c : Bool) → ltb 0 (inCell .rank) ≡ c → Cell ≡ cond p Plant (cond c Cell Neither) → 0 < inCell .rank
+      go true c q e = absurd (subst (picked (Unit {0}) ⊥ ⊥) e tt)
+      go false true q e = ltb-true _ _ q
+      go false false q e = absurd (subst (picked (Unit {0}) ⊥ ⊥) e tt)
+
+  pub plant-holds : Plant ≡ sideBy inCell inPlant → 0 < inPlant .rank
+  unfolding decided
+  plant-holds e = go (ltb (inCell .rank) (inPlant .rank)) (ltb 0 (inCell .rank)) refl e
+    where
+      go : (p c : Bool) → ltb (inCell .rank) (inPlant .rank) ≡ p → Plant ≡ cond p Plant (cond c Cell Neither) → 0 < inPlant .rank
+      go true c q e = omega (arith, ltb-true (inCell .rank) (inPlant .rank) q)
+      go false true q e = absurd (subst (picked ⊥ (Unit {0}) ⊥) e tt)
+      go false false q e = absurd (subst (picked ⊥ (Unit {0}) ⊥) e tt)

@@ -123,6 +123,19 @@ pub fn best_of_two(list: &[u8], first: u32, second: u32) -> BestOfTwo
     }
 }
 
+// The side of an address, by what each list has for it.
+fn side_by(in_cell: Best, in_plant: Best) -> Side
+    ensures { λ r. ⌜ r ≡ sideBy in_cell in_plant ⌝ }
+{
+    if in_cell.rank < in_plant.rank {
+        return Side::Plant;
+    }
+    if 0 < in_cell.rank {
+        return Side::Cell;
+    }
+    Side::Neither
+}
+
 // Entry `number`, counted from 1, as a part of its list.
 fn entry<'a>(list: &'a [u8], number: usize) -> &'a [u8]
     requires { ⌜ (0 < number) × (5 * number ≤ length (now list)) ⌝ }
@@ -141,13 +154,11 @@ pub fn winner<'a>(cell: &'a [u8], plant: &'a [u8], address: u32) -> &'a [u8]
 {
     let of_cell = best_in(cell, address);
     let of_plant = best_in(plant, address);
-    if of_cell.rank < of_plant.rank {
-        return entry(plant, of_plant.number);
+    match side_by(of_cell, of_plant) {
+        Side::Cell => entry(cell, of_cell.number),
+        Side::Plant => entry(plant, of_plant.number),
+        Side::Neither => &cell[0..0],
     }
-    if 0 < of_cell.rank {
-        return entry(cell, of_cell.number);
-    }
-    &cell[0..0]
 }
 
 // The winning entry by its place: whose list held it, and its number there, from 1; 0 where neither holds the address.
@@ -156,35 +167,18 @@ pub fn winning_entry(cell: &[u8], plant: &[u8], address: u32) -> Winning
 {
     let by_cell = best_in(cell, address);
     let by_plant = best_in(plant, address);
-    if by_cell.rank < by_plant.rank {
-        return Winning {
-            side: Side::Plant,
-            number: by_plant.number,
-        };
-    }
-    if 0 < by_cell.rank {
-        return Winning {
-            side: Side::Cell,
+    let side = side_by(by_cell, by_plant);
+    match side {
+        Side::Cell => Winning {
+            side,
             number: by_cell.number,
-        };
+        },
+        Side::Plant => Winning {
+            side,
+            number: by_plant.number,
+        },
+        Side::Neither => Winning { side, number: 0 },
     }
-    Winning {
-        side: Side::Neither,
-        number: 0,
-    }
-}
-
-// The side of an address, by what each list has for it.
-fn side_by(in_cell: Best, in_plant: Best) -> Side
-    ensures { λ r. ⌜ r ≡ sideBy in_cell in_plant ⌝ }
-{
-    if in_cell.rank < in_plant.rank {
-        return Side::Plant;
-    }
-    if 0 < in_cell.rank {
-        return Side::Cell;
-    }
-    Side::Neither
 }
 
 // The side that an address belongs to: whose list has the winning entry, or neither.

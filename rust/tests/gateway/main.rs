@@ -2,4 +2,7 @@
 
 mod against_second;
 mod calls;
+// Made as the captures of `compare` are. Not all of it is used here.
+#[allow(dead_code)]
+#[path = "../../../compare/src/random.rs"]
 mod random;

@@ -1,10 +1,9 @@
--- `sides::winner` meets its contract: the tests are those of the definition, and the best entry lies within its list.
+-- `sides::winner` meets its contract: by the side that was decided, whose best entry lies within its list.
 -- Assumes nothing.
-use mathlib.Core.Path.{_∙_}
-use Prim.Native.Nat.{_<_}
-use native.Mathlib.Omega.{arith}
+use mathlib.Core.Path.{sym, _∙_}
+use Rattle.sides.specs.Lists.{sideBy}
+use Rattle.sides.proofs.Steps.{in-list, on-side, cell-holds, plant-holds}
 use borrow.Author.Needs.{needs}
-use Rattle.sides.proofs.Steps.{in-list, to-plant, to-cell, to-neither}
 use Rattle.sides.proofs.winner.Statement.{statement}
 use Rattle.sides.proofs.winner.Tie as tie
 
@@ -14,29 +13,33 @@ best-in-requires c κs = search needs
 best-in-requires-2 : tie.Need-best-in-requires-2
 best-in-requires-2 c κs = search needs
 
+side-by-requires : tie.Need-side-by-requires
+side-by-requires c κs = search needs
+
+enum-told : tie.Need-enum-told
+enum-told c = search needs
+
 entry-requires : tie.Need-entry-requires
 entry-requires c κs =
-    let e = c .before .before .before .best-in2 .ensures in
-    let some : 0 < c .before .before .before .best-in2 .result .rank = omega (arith, c .if1 .taken) in
-    rw e (in-list _ _ (rw e at some))
+    let s = c .before .before in
+    let ofCell = s .before .before .best-in .ensures in
+    let ofPlant = s .before .best-in2 .ensures in
+    let on = sym (c .enum-told .given .1) ∙ s .side-by .ensures ∙ (λ i. sideBy (ofCell i) (ofPlant i)) in
+    rw ofCell (in-list _ _ (cell-holds _ _ on))
 
-returns : tie.Need-returns
-returns c =
-    let e = c .before .before .before .before .best-in2 .ensures in
-    let plant = rw (c .before .before .before .before .before .best-in .ensures, e) at (c .before .if1 .taken) in
-    ((rw e at (c .entry .ensures .0)) ∙ to-plant _ _ _ _ _ plant, (rw e at (c .entry .ensures .1)) ∙ to-plant _ _ _ _ _ plant)
+enum-told-2 : tie.Need-enum-told-2
+enum-told-2 c = search needs
 
 entry-requires-2 : tie.Need-entry-requires-2
 entry-requires-2 c κs =
-    let e = c .before .before .before .before .before .before .best-in .ensures in
-    rw e (in-list _ _ (rw e at (c .if2 .taken)))
+    let s = c .before .before in
+    let ofCell = s .before .before .best-in .ensures in
+    let ofPlant = s .before .best-in2 .ensures in
+    let on = sym (c .enum-told2 .given .1) ∙ s .side-by .ensures ∙ (λ i. sideBy (ofCell i) (ofPlant i)) in
+    rw ofPlant (in-list _ _ (plant-holds _ _ on))
 
-returns-2 : tie.Need-returns-2
-returns-2 c =
-    let e = c .before .before .before .before .before .before .before .best-in .ensures in
-    let cell = rw (e, c .before .before .before .before .before .before .best-in2 .ensures) at (c .before .before .before .if1 .left) in
-    let some = rw e at (c .before .if2 .taken) in
-    ((rw e at (c .entry2 .ensures .0)) ∙ to-cell _ _ _ _ _ cell some, (rw e at (c .entry2 .ensures .1)) ∙ to-cell _ _ _ _ _ cell some)
+enum-told-3 : tie.Need-enum-told-3
+enum-told-3 c = search needs
 
 sub-result : tie.Need-sub-result
 sub-result c = search needs
@@ -47,12 +50,29 @@ part-result-start c = search needs
 part-result-end : tie.Need-part-result-end
 part-result-end c = search needs
 
+returns : tie.Need-returns
+returns c =
+    let s = c .before .before .before in
+    let ofCell = s .before .before .best-in .ensures in
+    let ofPlant = s .before .best-in2 .ensures in
+    let on = sym (c .before .enum-told .given .1) ∙ s .side-by .ensures ∙ (λ i. sideBy (ofCell i) (ofPlant i)) in
+    ((rw ofCell at (c .entry .ensures .0)) ∙ on-side _ _ _ _ _ on, (rw ofCell at (c .entry .ensures .1)) ∙ on-side _ _ _ _ _ on)
+
+returns-2 : tie.Need-returns-2
+returns-2 c =
+    let s = c .before .before .before in
+    let ofCell = s .before .before .best-in .ensures in
+    let ofPlant = s .before .best-in2 .ensures in
+    let on = sym (c .before .enum-told2 .given .1) ∙ s .side-by .ensures ∙ (λ i. sideBy (ofCell i) (ofPlant i)) in
+    ((rw ofPlant at (c .entry2 .ensures .0)) ∙ on-side _ _ _ _ _ on, (rw ofPlant at (c .entry2 .ensures .1)) ∙ on-side _ _ _ _ _ on)
+
 returns-3 : tie.Need-returns-3
 returns-3 c =
-    let e = c .before .before .before .before .before .before .before .best-in .ensures in
-    let cell = rw (e, c .before .before .before .before .before .before .best-in2 .ensures) at (c .before .before .before .if1 .left) in
-    let none = rw e at (c .before .if2 .left) in
-    (to-neither _ _ _ _ _ cell none, to-neither _ _ _ _ _ cell none)
+    let s = c .before .before .before in
+    let ofCell = s .before .before .best-in .ensures in
+    let ofPlant = s .before .best-in2 .ensures in
+    let on = sym (c .before .enum-told3 .given .1) ∙ s .side-by .ensures ∙ (λ i. sideBy (ofCell i) (ofPlant i)) in
+    (on-side _ _ _ _ _ on, on-side _ _ _ _ _ on)
 
 pub winner-spec : {M : Type 1} → statement M
 winner-spec =
@@ -60,11 +80,15 @@ winner-spec =
     (tie.spec
     best-in-requires
     best-in-requires-2
+    side-by-requires
+    enum-told
     entry-requires
-    returns
+    enum-told-2
     entry-requires-2
-    returns-2
+    enum-told-3
     sub-result
     part-result-start
     part-result-end
+    returns
+    returns-2
     returns-3)
