@@ -9,11 +9,13 @@ use native.Mathlib.Nat.{zero-add}
 use native.Mathlib.Omega.{arith}
 use lib.ListN.{length, getD, take, drop, length-append, length-drop, List·getD-append}
 use lib.Seq.{getD-append-add, drop-append-add, drop-append-le, take-append-le}
-use Rattle.words.specs.Words.{ofFour, fourIn}
+use Rattle.words.specs.Layouts.{numbersAt}
+use Rattle.words.proofs.Layouts.{numbers-alike}
 use Rattle.capture.specs.declared.Cursor.{Cursor}
 use Rattle.capture.specs.declared.Record.{Record}
 use Rattle.capture.specs.declared.Reading.{Reading}
 use Rattle.capture.specs.declared.Reading.the-variants.{End, Cut, Long, Whole}
+use Rattle.capture.specs.Format.{recordWords}
 use Rattle.capture.specs.Capture.{nextOf}
 use Rattle.capture.specs.Whole.{movedTo, onto, turn, inTurn, courseOf, goneOn}
 use Rattle.capture.specs.Whole.{later, placed, laterRecord, laterReading, settled, bytesOf}
@@ -22,33 +24,25 @@ use Rattle.capture.proofs.Readings.{head, Tells, tells, exactly, whole-
 
 -- ---- a list in which the bytes of a window stand from n on
 module _ (l window : List ℕ) (n : ℕ) (alike : (p q : ℕ) → p ≡ n + q → q < length window → getD l p 0 ≡ getD window q 0) where
-  four-alike : (big : Bool) (p q : ℕ) → p ≡ n + q → q + 4 ≤ length window → fourIn big l p ≡ fourIn big window q
-  four-alike big p q e h = go big
-    where
-      byte : (k : ℕ) → k < 4 → getD l (p + k) 0 ≡ getD window (q + k) 0
-      byte k m = alike (p + k) (q + k) (omega arith) (omega arith)
-
-      first : getD l p 0 ≡ getD window q 0
-      first = alike p q e (omega arith)
-
-      go : (b : Bool) → fourIn b l p ≡ fourIn b window q
-      go true = λ i. ofFour (first i) (byte 1 (omega arith) i) (byte 2 (omega arith) i) (byte 3 (omega arith) i)
-      go false = λ i. ofFour (byte 3 (omega arith) i) (byte 2 (omega arith) i) (byte 1 (omega arith) i) (first i)
-
   module _ (c : Cursor) where
+    -- the words of a record's header are the window's
+    words-alike : c .at + 16 ≤ length window
+        → numbersAt (c .«big_endian») recordWords l (n + c .at) ≡ numbersAt (c .«big_endian») recordWords window (c .at)
+    words-alike h = numbers-alike l window n alike (c .«big_endian») recordWords (n + c .at) (c .at) 0 refl (omega arith)
+
     captured-alike : c .at + 16 ≤ length window → head l (later n c) .captured ≡ head window c .captured
-    captured-alike h = four-alike (c .«big_endian») (n + c .at + 8) (c .at + 8) (omega arith) (omega arith)
+    captured-alike h = ap (λ (told : List ℕ). getD told 2 0) (words-alike h)
 
     head-alike : c .at + 16 ≤ length window → head l (later n c) ≡ laterRecord n (head window c)
     head-alike h =
-        let big = c .«big_endian» in
         let from : head l (later n c) .from ≡ n + head window c .from = omega arith in
         let end : head l (later n c) .end ≡ n + head window c .end = omega (arith, captured-alike h) in
+        let told = words-alike h in
         λ i. record {
-          seconds = four-alike big (n + c .at) (c .at) refl (omega arith) i;
-          microseconds = four-alike big (n + c .at + 4) (c .at + 4) (omega arith) (omega arith) i;
-          captured = captured-alike h i;
-          original = four-alike big (n + c .at + 12) (c .at + 12) (omega arith) (omega arith) i;
+          seconds = getD (told i) 0 0;
+          microseconds = getD (told i) 1 0;
+          captured = getD (told i) 2 0;
+          original = getD (told i) 3 0;
           from = from i;
           end = end i;
         }

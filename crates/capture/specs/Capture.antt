@@ -1,11 +1,11 @@
--- Document 01, "Captures are classic pcap, version 2.4.", and refusals 7 and 8. Places of the words are those of that format.
+-- Document 01, "Captures are classic pcap, version 2.4.", and refusals 7 and 8: what reading answers.
 -- Assumes nothing.
 use mathlib.Core.Bool.{Bool, true, cond, not, _||_}
 use mathlib.Core.List.{List}
 use Prim.Native.Nat.{ℕ, _+_}
 use lib.Dec.{eqb, ltb, leb}
 use lib.ListN.{length}
-use Rattle.words.specs.Words.{fourAt, twoIn, fourIn}
+use Rattle.capture.specs.Format.{magic, magicIn, majorIn, minorIn, linkTypeIn, recordWord}
 use Rattle.capture.specs.declared.Cursor.{Cursor}
 use Rattle.capture.specs.declared.Opened.{Opened}
 use Rattle.capture.specs.declared.Opened.the-variants.{Refused, Open}
@@ -14,19 +14,16 @@ use Rattle.capture.specs.declared.Reading.{Reading}
 use Rattle.capture.specs.declared.Reading.the-variants.{End, Cut, Long, Whole}
 
 -- ---- the header: 24 bytes
-abbrev pub magic : ℕ
-magic = 0xa1b2c3d4
-
 -- the byte order is that in which the magic stands: the most significant byte first, or else it has to be the least
 abbrev pub bigEndian : List ℕ → Bool
-bigEndian l = eqb (fourAt l 0) magic
+bigEndian l = eqb (magicIn true l) magic
 
 -- "magic not a1b2c3d4 in either byte order, version not 2.4, or link type not 1"
 abbrev pub badWords : Bool → List ℕ → Bool
 badWords big l =
-    not (eqb (fourIn big l 0) magic)
-    || ((not (eqb (twoIn big l 4) 2) || not (eqb (twoIn big l 6) 4))
-    || not (eqb (fourIn big l 20) 1))
+    not (eqb (magicIn big l) magic)
+    || ((not (eqb (majorIn big l) 2) || not (eqb (minorIn big l) 4))
+    || not (eqb (linkTypeIn big l) 1))
 
 -- 7: "capture header: short", or one of these
 unfoldable pub badHeader : List ℕ → Bool
@@ -40,12 +37,12 @@ openedOf l = cond (badHeader l) (Refused 7) (Open (record { at = 24; «big_endia
 abbrev pub headAt : Bool → ℕ → List ℕ → Record
 headAt big at l =
     record {
-      seconds = fourIn big l at;
-      microseconds = fourIn big l (at + 4);
-      captured = fourIn big l (at + 8);
-      original = fourIn big l (at + 12);
+      seconds = recordWord big at l 0;
+      microseconds = recordWord big at l 1;
+      captured = recordWord big at l 2;
+      original = recordWord big at l 3;
       from = at + 16;
-      end = (at + 16) + fourIn big l (at + 8);
+      end = (at + 16) + recordWord big at l 2;
     }
 
 -- 8: "capture record cut off, or over 2,048 captured bytes". Nothing at all is no record that is cut off, but the capture's end.

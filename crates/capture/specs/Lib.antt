@@ -1,3 +1,5 @@
--- What a capture is, and what reading it answers.
+-- What a capture is, what reading it answers, and what writing one does.
+pub mod Format
 pub mod Capture
 pub mod Whole
+pub mod Writing

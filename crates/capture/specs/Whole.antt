@@ -3,8 +3,10 @@
 use mathlib.Core.Bool.{Bool, true, false}
 use mathlib.Core.List.{List, [], _∷_, _++_, map}
 use mathlib.Core.Path.{_≡_}
-use Prim.Native.Nat.{ℕ, zero, suc, _+_, _-_, _≤_}
+use Prim.Native.Nat.{ℕ, zero, suc, _+_, _-_, _≤_, _<_}
 use lib.ListN.{length, take, drop}
+use Rattle.words.specs.Layouts.{four, limit}
+use Rattle.capture.specs.Format.{Stamped, stampedOf}
 use Rattle.capture.specs.Capture.{nextOf}
 use Rattle.capture.specs.declared.Cursor.{Cursor}
 use Rattle.capture.specs.declared.Record.{Record}
@@ -64,6 +66,22 @@ allBytes l (r ∷ records) = take (16 + r .captured) (drop (r .from - 16) l) ++ 
 -- a record's captured bytes
 abbrev pub bytesOf : List ℕ → Record → List ℕ
 bytesOf l r = take (r .captured) (drop (r .from) l)
+
+-- ---- what is told
+-- what a record tells, and all that a capture tells from a cursor on
+abbrev pub stampedIn : List ℕ → Record → Stamped
+stampedIn l r = stampedOf (r .seconds) (r .microseconds) (r .original) (bytesOf l r)
+
+abbrev pub recordsIn : List ℕ → Cursor → List Stamped
+recordsIn l cursor = map (stampedIn l) (courseOf l cursor .records)
+
+-- what can be written: times and an original length of 32 bits, and at most 2,048 bytes
+abbrev pub Writable : Stamped → Type 0
+Writable r = (r .seconds < limit four) × (r .microseconds < limit four) × (r .original < limit four) × (length (r .bytes) ≤ 2048)
+
+abbrev pub AllWritable : List Stamped → Type 0
+AllWritable [] = Unit {0}
+AllWritable (r ∷ records) = Writable r × AllWritable records
 
 -- ---- a window on a part of a capture
 -- whether it is enough to tell: not where it ends before the record does, or before there is one

@@ -1,9 +1,13 @@
-// Reading captures: classic pcap, version 2.4, in either byte order, link type 1. A capture may lie in memory whole, or in part: a record
-// that ends beyond the bytes at hand is told as cut, and read again when there are more.
+// Captures: classic pcap, version 2.4, link type 1. They are read in either byte order and written in little-endian order. A capture may lie
+// in memory whole, or in part: a record that ends beyond the bytes at hand is told as cut, and read again when there are more.
 ghost use mathlib.Core.Path.{_≡_};
 ghost use Prim.Native.Nat.{_+_, _≤_};
 ghost use lib.ListN.{length};
 ghost use Rattle.capture.specs.Capture.{badWords, openedOf, headAt, nextOf};
+ghost use mathlib.Core.Bool.{false};
+ghost use Rattle.words.specs.Words.{stored};
+ghost use Rattle.capture.specs.Format.{headerBytes, stampedOf, recordBytes};
+ghost use Rattle.capture.specs.Writing.{putOf, headerPut, recordPut};
 
 const MAGIC: u32 = 0xa1b2c3d4;
 
@@ -45,6 +49,12 @@ pub enum Reading {
     Cut,
     Long,
     Whole(Record),
+}
+
+// What writing answers: the number of a refusal, or the place after what was written.
+pub enum Written {
+    Refused(u8),
+    Next(usize),
 }
 
 // Whether a header that is not short has a wrong magic, version or link type.
@@ -111,4 +121,68 @@ pub fn next(bytes: &[u8], cursor: Cursor) -> Reading
         return Reading::Cut;
     }
     Reading::Whole(record)
+}
+
+// Writes the words of a capture's header into room that is as long.
+fn fill_header(room: &mut [u8])
+    requires { ⌜ length (now room) ≡ 24 ⌝ }
+    ensures { λ _. ⌜ now (room .exit) ≡ stored (headerBytes false) 0 (now (room .entry)) ⌝ }
+{
+    words::store_four(room, 0, MAGIC, false);
+    words::store_two(room, 4, 2, false);
+    words::store_two(room, 6, 4, false);
+    words::store_four(room, 8, 0, false);
+    words::store_four(room, 12, 0, false);
+    words::store_four(room, 16, 2048, false);
+    words::store_four(room, 20, 1, false);
+}
+
+// Writes a record, its header and the captured bytes, into room that is as long.
+fn fill_record(room: &mut [u8], seconds: u32, microseconds: u32, original: u32, source: &[u8])
+    requires { ⌜ (length (now source) ≤ 2048) × (length (now room) ≡ 16 + length (now source)) ⌝ }
+    ensures { λ _. ⌜ now (room .exit)
+        ≡ stored (recordBytes false (stampedOf seconds microseconds original (now (source .entry)))) 0 (now (room .entry)) ⌝ }
+{
+    words::store_four(room, 0, seconds, false);
+    words::store_four(room, 4, microseconds, false);
+    words::store_four(room, 8, source.len() as u32, false);
+    words::store_four(room, 12, original, false);
+    words::store(room, 16, source);
+}
+
+// Writes a capture's header into the room at a place. Answers the place of the first record, or refusal 9 where there is no room for it.
+pub fn put_header(room: &mut [u8], at: usize) -> Written
+    ensures { λ r. ⌜ putOf r (now (room .exit)) ≡ headerPut at (now (room .entry)) ⌝ }
+{
+    if words::has_room(room.len(), at, HEADER) {
+        let end = at + HEADER;
+        fill_header(&mut room[at..end]);
+        return Written::Next(end);
+    }
+    Written::Refused(9)
+}
+
+// Writes a record into the room at a place: its second and microsecond, its original length, and the bytes that were captured of it.
+// Answers the place of the next record, or refusal 8 where they are more than 2,048, and then 9 where there is no room for the record.
+pub fn put_record(
+    room: &mut [u8],
+    at: usize,
+    seconds: u32,
+    microseconds: u32,
+    original: u32,
+    source: &[u8],
+) -> Written
+    ensures { λ r. ⌜ putOf r (now (room .exit))
+        ≡ recordPut (stampedOf seconds microseconds original (now (source .entry))) at (now (room .entry)) ⌝ }
+{
+    if MOST_CAPTURED < source.len() {
+        return Written::Refused(8);
+    }
+    let size = RECORD_HEADER + source.len();
+    if words::has_room(room.len(), at, size) {
+        let end = at + size;
+        fill_record(&mut room[at..end], seconds, microseconds, original, source);
+        return Written::Next(end);
+    }
+    Written::Refused(9)
 }

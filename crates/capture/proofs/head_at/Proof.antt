@@ -2,6 +2,7 @@
 -- Assumes nothing.
 use borrow.Author.Needs.{needs}
 use mathlib.Core.Path.{_∙_}
+use native.Mathlib.Nat.{add-zero}
 use native.Mathlib.Omega.{arith}
 use Rattle.capture.proofs.head_at.Statement.{statement}
 use Rattle.capture.proofs.head_at.Tie as tie
@@ -41,6 +42,7 @@ add-t11 c = search needs
 returns : tie.Need-returns
 returns c = let start = c .before .before .before .before .before in
     rw (
+      add-zero (start .args .at),
       (c .before .before .before .four-in .ensures ∙ there 4 (fourIn (start .args .big-endian)) _ _ (omega (arith, start .pre))),
       (c .before .before .four-in2 .ensures ∙ there 4 (fourIn (start .args .big-endian)) _ _ (omega (arith, start .pre))),
       (c .before .four-in3 .ensures ∙ there 4 (fourIn (start .args .big-endian)) _ _ (omega (arith, start .pre))),
