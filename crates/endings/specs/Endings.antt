@@ -10,10 +10,10 @@ use Rattle.lines.specs.Lines.{line, lastLine}
 abbrev pub oneMore : ℕ → ℕ
 oneMore number = (number + 1) % 2 ^ 64
 
--- the last line, and before it that of a record which is cut off: it has its own number, and was not read whole
+-- the last line, and before it that of a record which is refused by 8, cut off or too long: it has its own number, and was not read whole
 abbrev pub ending : Bool → ℕ → ℕ → List ℕ
-ending cut records refusals =
-    cond cut
+ending refused records refusals =
+    cond refused
     (line (oneMore records) (Refused 8) ++ lastLine records (oneMore refusals))
     (lastLine records refusals)
 

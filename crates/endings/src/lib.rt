@@ -11,12 +11,12 @@ pub fn one_more(number: u64) -> u64
     std::num::wrapping_add_u64(number, 1)
 }
 
-// Puts the lines for when no more bytes come: that of a record which is cut off, if one is, and the last line. Answers the place after
-// them in the room.
-pub fn put_ending(room: &mut [u8], at: usize, records: u64, refusals: u64, is_cut: bool) -> usize
-    ensures { λ r. ⌜ roomOf r (now (room .exit)) ≡ put (ending «is_cut» records refusals) (roomOf at (now (room .entry))) ⌝ }
+// Puts the lines for when no more records come: that of a record which is refused by 8, if one is, and the last line. Answers the place
+// after them in the room.
+pub fn put_ending(room: &mut [u8], at: usize, records: u64, refusals: u64, is_refused: bool) -> usize
+    ensures { λ r. ⌜ roomOf r (now (room .exit)) ≡ put (ending «is_refused» records refusals) (roomOf at (now (room .entry))) ⌝ }
 {
-    if is_cut {
+    if is_refused {
         let next = lines::put_line(room, at, one_more(records), Answer::Refused(8));
         return lines::put_last_line(room, next, records, one_more(refusals));
     }

@@ -1,7 +1,7 @@
 -- What a step makes of the gateway's state, case by case.
 -- Assumes nothing.
 use mathlib.Core.Bool.{Bool, true, false}
-use mathlib.Core.Path.{_≡_, refl, ap}
+use mathlib.Core.Path.{_≡_, refl, sym, ap, subst, _∙_}
 use mathlib.Core.List.{List}
 use Prim.Native.Nat.{ℕ}
 use Rattle.settings.specs.declared.Settings.{Settings}
@@ -17,6 +17,7 @@ use Rattle.gateway.specs.declared.Reply.{Reply}
 use Rattle.gateway.specs.Calls.{State, After, started}
 use Rattle.frames.specs.Frames.{frameJudged}
 use Rattle.replay.specs.declared.Step.{Step}
+use Rattle.replay.specs.declared.Step.the-variants as step
 use Rattle.replay.specs.Replay.{cellList, plantList, startedFirst, frameIn, recordJudged, judgedStep, byReading, stepped}
 
 module _ (time : ℕ) (before : State) where
@@ -45,3 +46,22 @@ read-as isFirst bytes cursor before after e f = rw e f
 pub whole-as : (isFirst : Bool) (bytes : List ℕ) (r : Record) (before : State) (after : After Answer)
     → after ≡ recordJudged isFirst bytes r before → judgedStep r after ≡ byReading isFirst bytes (reading.Whole r) before
 whole-as isFirst bytes r before after e = ap (judgedStep r) e
+
+-- a record that was judged is whole
+module _ (isFirst : Bool) (bytes : List ℕ) (cursor : Cursor) (before : State) where
+  abbrev IsWhole : Step → Type 0
+  IsWhole step.End = Unit {0}
+  IsWhole step.Cut = Unit {0}
+  IsWhole step.Long = Unit {0}
+  IsWhole (step.Judged r answer) = nextOf bytes cursor ≡ reading.Whole r
+
+  by-reading : (x : Reading) → nextOf bytes cursor ≡ x → IsWhole (byReading isFirst bytes x before .answer)
+  by-reading reading.End e = tt
+  by-reading reading.Cut e = tt
+  by-reading reading.Long e = tt
+  by-reading (reading.Whole r) e = e
+
+  pub judged-is-whole : (r : Record) (answer : Answer) (after : After Step) → after ≡ stepped isFirst bytes cursor before → after .answer ≡ step.Judged r answer
+      → nextOf bytes cursor ≡ reading.Whole r
+  unfolding stepped
+  judged-is-whole r answer after e f = subst IsWhole (sym (ap (λ (a : After Step). a .answer) e) ∙ f) (by-reading (nextOf bytes cursor) refl)

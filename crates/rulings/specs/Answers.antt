@@ -1,5 +1,6 @@
 -- Document 01's number and values for each case of an answer.
 -- Assumes nothing.
+use mathlib.Core.Bool.{Bool, true, false}
 use mathlib.Core.Option.{Option, none, some}
 use Prim.Native.Nat.{ℕ}
 use lib.IntN.{ℤ}
@@ -7,7 +8,7 @@ use Rattle.rulings.specs.declared.answers.Replacement.{Replacement}
 use Rattle.rulings.specs.declared.answers.Replacement.the-variants.{None, Address}
 use Rattle.rulings.specs.declared.answers.Answer.{Answer}
 use Rattle.rulings.specs.declared.answers.Answer.the-variants.{Refused, NotOurs, Judged}
-use Rattle.verdicts.specs.Verdicts.{numberOf}
+use Rattle.verdicts.specs.Verdicts.{numberOf, isForwarded}
 
 -- "The answer of a refusal is its number alone", and 0 stands for a call that is not refused
 abbrev pub refusalTold : Answer → ℕ
@@ -20,6 +21,12 @@ abbrev pub verdictTold : Answer → Option ℕ
 verdictTold (Refused number) = none
 verdictTold NotOurs = some 0
 verdictTold (Judged verdict count replaced) = some (numberOf verdict)
+
+-- whether the packet goes through: verdicts 0 to 4 do, and what is refused does not
+abbrev pub forwardedTold : Answer → Bool
+forwardedTold (Refused number) = false
+forwardedTold NotOurs = true
+forwardedTold (Judged verdict count replaced) = isForwarded verdict
 
 -- "The answer holds the verdict, the address's count after it, and the replaced address, if any". "Verdict 0 has no count."
 abbrev pub countTold : Answer → Option ℤ

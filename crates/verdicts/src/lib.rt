@@ -36,7 +36,7 @@ pub fn number(verdict: Verdict) -> u8
 }
 
 // Whether a verdict drops the packet.
-fn is_dropped(verdict: Verdict) -> bool
+pub fn is_dropped(verdict: Verdict) -> bool
     ensures { λ r. ⌜ r ≡ not (isForwarded verdict) ⌝ }
 {
     match verdict {

@@ -1,0 +1,2 @@
+-- What the proofs of feeding cite.
+pub mod Cases

@@ -1,0 +1,2 @@
+-- What a program that replays a capture puts out.
+pub mod Feeding

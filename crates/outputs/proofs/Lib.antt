@@ -1,0 +1,2 @@
+-- What the proofs of an output cite.
+pub mod Cases

@@ -1,0 +1,2 @@
+-- What is put out for a record.
+pub mod Outputs

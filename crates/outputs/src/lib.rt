@@ -1,0 +1,91 @@
+// What a program that replays a capture puts out for each whole record, into lent room: a line, or the record itself where it went through.
+ghost use mathlib.Core.Path.{_≡_};
+ghost use Rattle.rulings.specs.Answers.{forwardedTold};
+ghost use Rattle.lines.specs.Room.{roomOf};
+ghost use Rattle.capture.specs.Format.{stampedOf};
+ghost use Rattle.outputs.specs.Outputs.{placeAfter, forwardedPut, toldPut, openingPut};
+use capture::Record;
+use capture::Written;
+use rulings::answers::Answer;
+
+// Which program it is: the printing one, or the one that writes what was forwarded.
+pub enum Output {
+    Lines,
+    Forwarded,
+}
+
+// Whether an answer lets the packet through. What is not ours goes through; what is refused does not.
+pub fn is_forwarded(answer: Answer) -> bool
+    ensures { λ r. ⌜ r ≡ forwardedTold answer ⌝ }
+{
+    match answer {
+        Answer::Refused(number) => false,
+        Answer::NotOurs => true,
+        Answer::Judged {
+            verdict,
+            count,
+            replaced,
+        } => !verdicts::is_dropped(verdict),
+    }
+}
+
+// The place after what was written: the same as before where it was refused.
+fn place_after(written: Written, at: usize) -> usize
+    ensures { λ r. ⌜ r ≡ placeAfter written at ⌝ }
+{
+    match written {
+        Written::Refused(number) => at,
+        Written::Next(next) => next,
+    }
+}
+
+// Puts a record that went through.
+fn put_forwarded(room: &mut [u8], at: usize, read: Record, frame: &[u8], answer: Answer) -> usize
+    ensures { λ r. ⌜ roomOf r (now (room .exit))
+        ≡ forwardedPut (stampedOf (read .seconds) (read .microseconds) (read .original) (now (frame .entry))) answer (roomOf at (now (room .entry))) ⌝ }
+{
+    if is_forwarded(answer) {
+        let written = capture::put_record(
+            room,
+            at,
+            read.seconds,
+            read.microseconds,
+            read.original,
+            frame,
+        );
+        return place_after(written, at);
+    }
+    at
+}
+
+// Puts what a program puts out for a whole record: its number, what its header says, its captured bytes, and what the gateway answered.
+// Answers the place after it in the room.
+pub fn put_told(
+    output: Output,
+    room: &mut [u8],
+    at: usize,
+    number: u64,
+    read: Record,
+    frame: &[u8],
+    answer: Answer,
+) -> usize
+    ensures { λ r. ⌜ roomOf r (now (room .exit))
+        ≡ toldPut output number (stampedOf (read .seconds) (read .microseconds) (read .original) (now (frame .entry))) answer
+        (roomOf at (now (room .entry))) ⌝ }
+{
+    match output {
+        Output::Lines => lines::put_line(room, at, number, answer),
+        Output::Forwarded => put_forwarded(room, at, read, frame, answer),
+    }
+}
+
+// Puts what a program puts out before the first record, once the capture's header is read: a header of its own, or nothing. Answers the
+// place after it in the room.
+pub fn put_opening(output: Output, room: &mut [u8], at: usize) -> usize
+    ensures { λ r. ⌜ roomOf r (now (room .exit)) ≡ openingPut output (roomOf at (now (room .entry))) ⌝ }
+{
+    match output {
+        Output::Lines => at,
+        Output::Forwarded => place_after(capture::put_header(room, at), at),
+    }
+}

@@ -1,3 +1,0 @@
--- What the proofs of printing cite.
-pub mod Cases
-pub mod Whole

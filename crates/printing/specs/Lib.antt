@@ -1,2 +1,0 @@
--- What the printing program prints.
-pub mod Printing
