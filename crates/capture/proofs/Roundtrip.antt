@@ -14,7 +14,7 @@ use lib.Seq.{drop-drop, take-add, drop-at, take-at, take-append-le}
 use Rattle.words.specs.Words.{stored}
 use Rattle.words.proofs.Words.{all-stored, stored-length, stored-then}
 use Rattle.words.specs.Layouts.{Bytes, limit, four, bytesFor, numbersAt, Holds}
-use Rattle.words.proofs.Layouts.{numbers-back, layout-back, layout-size}
+use Rattle.words.proofs.Layouts.{numbers-back, in-range, layout-back, layout-size}
 use Rattle.capture.specs.declared.Cursor.{Cursor}
 use Rattle.capture.specs.declared.Opened.{Opened}
 use Rattle.capture.specs.declared.Opened.the-variants.{Refused, Open}
@@ -24,7 +24,7 @@ use Rattle.capture.specs.declared.Reading.the-variants.{End, Cut, Long, 
 use Rattle.capture.specs.Format.{Stamped, stampedOf, recordWords, recordNumbers, recordBytes, recordsBytes, captureBytes, headerBytes}
 use Rattle.capture.specs.Format.{headerWords, magic, magicIn, majorIn, minorIn, zoneIn, accuracyIn, snapLengthIn, linkTypeIn}
 use Rattle.capture.specs.Capture.{bigEndian, badWords, badHeader, openedOf, headAt, nextOf}
-use Rattle.capture.specs.Whole.{Course, movedTo, stopped, onto, turn, inTurn, courseOf, allBytes, bytesOf, stampedIn, recordsIn, Writable, AllWritable}
+use Rattle.capture.specs.Whole.{Course, movedTo, stopped, onto, turn, inTurn, courseOf, Each, allBytes, bytesOf, stampedIn, recordsIn, Writable, AllWritable}
 use Rattle.capture.proofs.Readings.{opened, at-the-end, is-whole, tells, whole-record}
 use Rattle.capture.proofs.Whole.{covers}
 use Rattle.capture.proofs.Writings.{have-room, few-enough, the-header}
@@ -218,6 +218,27 @@ module _ (l : List ℕ) (bytes : Bytes l) where
       ∙ ap (λ (m : List ℕ). take 16 (drop at l) ++ take (r .captured) m) (sym (drop-drop 16 at l))
       ∙ sym (take-add 16 (r .captured) (drop at l))
       ∙ ap (λ (k : ℕ). take (16 + r .captured) (drop k l)) (sym start)
+
+  -- what a record's header says fits its words
+  abbrev pub Ranged : Record → Type 0
+  Ranged r = (r .seconds < limit four) × (r .microseconds < limit four) × (r .original < limit four)
+
+  ranged : (cursor : Cursor) (r : Record) → nextOf l cursor ≡ Whole r → Ranged r
+  ranged cursor r e =
+      let big = cursor .«big_endian» in
+      subst Ranged (sym (tells l cursor (Whole r) e .1))
+      (in-range l bytes big four (cursor .at + 0), in-range l bytes big four (cursor .at + 4), in-range l bytes big four (cursor .at + 12))
+
+  pub all-ranged : (turns : ℕ) (cursor : Cursor) → Each Ranged (inTurn turns l cursor .records)
+  unfolding inTurn
+  all-ranged zero cursor = tt
+  all-ranged (suc turns) cursor =
+      (elim (nextOf l cursor) as (λ x. nextOf l cursor ≡ x → Each Ranged (turn cursor (λ c. inTurn turns l c) x .records)) [
+        | End ↦ λ e. tt
+        | Cut ↦ λ e. tt
+        | Long ↦ λ e. tt
+        | Whole r ↦ λ e. (ranged cursor r e, all-ranged turns (movedTo (r .end) cursor))
+      ]) refl
 
   -- records in turn
   records-again : (turns : ℕ) (cursor : Cursor) → let course = inTurn turns l cursor in

@@ -1,2 +1,3 @@
--- What the proofs of an output cite.
+-- What the proofs of an output cite, and that it is put whole.
 pub mod Cases
+pub mod Whole

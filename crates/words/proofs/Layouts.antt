@@ -129,6 +129,13 @@ module _ (l : List ℕ) (bytes : Bytes l) where
   bytes-back false four at h = let t = four-bytes _ _ _ _ (bytes (at + 3)) (bytes (at + 2)) (bytes (at + 1)) (bytes at) in
       rw (four-there at h) (λ i. t .3 i ∷ (t .2 i ∷ (t .1 i ∷ (t .0 i ∷ []))))
 
+  -- a number that is read fits its word
+  pub in-range : (big : Bool) (w : Word) (at : ℕ) → numberIn big w l at < limit w
+  in-range true two at = omega (arith, bytes at, bytes (at + 1))
+  in-range false two at = omega (arith, bytes at, bytes (at + 1))
+  in-range true four at = omega (arith, bytes at, bytes (at + 1), bytes (at + 2), bytes (at + 3))
+  in-range false four at = omega (arith, bytes at, bytes (at + 1), bytes (at + 2), bytes (at + 3))
+
   pub layout-back : (big : Bool) (words : List Word) (at past : ℕ) → at + past + sizes words ≤ length l
       → bytesFor big words (numbersFrom big words l at past) ≡ take (sizes words) (drop (at + past) l)
   layout-back big [] at past h = refl
