@@ -2,3 +2,4 @@
 pub mod Cases
 pub mod Whole
 pub mod Output
+pub mod Pieces

@@ -50,7 +50,7 @@ all-kept l (r ∷ records) t all =
     ∙ ap (λ (others : List Stamped). stampOf l r ∷ others) (all-kept l records (toldNext Forwarded l r t) (all .1))
 
 -- the captured bytes of a record that was read whole
-frame-is : (l : List ℕ) (r : Record) → r .end ≡ r .from + r .captured → frameIn l r ≡ bytesOf l r
+pub frame-is : (l : List ℕ) (r : Record) → r .end ≡ r .from + r .captured → frameIn l r ≡ bytesOf l r
 frame-is l r e =
     let count : r .end - r .from ≡ r .captured = omega arith in
     ap (λ (n : ℕ). take n (drop (r .from) l)) count
