@@ -19,6 +19,7 @@
  *   6  the IP version isn't 4, header length below 5 words, or total length below header length
  *   7  capture header: short, magic not a1b2c3d4 in either byte order, version not 2.4, or link type not 1
  *   8  capture record cut off, or over 2,048 captured bytes
+ *   9  writing a capture: the header or the record needs more room than is left
  * A call tests in rising number those for which it has an input, but header tests have their own order: fewer than 20 bytes, 5; then 6;
  * then bytes fewer than the header length, 5; then transport. For frames, see `spritgrommet_frame`.
  */
@@ -107,6 +108,12 @@ struct spritgrommet_next {
     struct spritgrommet_record record;
 };
 
+/* A part of a capture written. Where it is refused nothing was written, and there is no place. */
+struct spritgrommet_written {
+    uint8_t refusal; /* 0, 8 or 9 */
+    size_t next;     /* where the next record goes */
+};
+
 /* ---- the functions of the archive, over plain numbers and lent memory ---- */
 
 /* The factory settings: T 10, Cmin -20, Dmiss 60, Dconn 10, keys all zero. */
@@ -150,6 +157,14 @@ void spritgrommet_tally(uint32_t totals[7], struct spritgrommet_answer answer);
  * starts at its `end`. At or past the last byte there is none left, and no refusal. */
 struct spritgrommet_opening spritgrommet_open(const uint8_t *bytes, size_t length);
 struct spritgrommet_next spritgrommet_next(const uint8_t *bytes, size_t length, struct spritgrommet_cursor cursor);
+
+/* Writes a capture into a room: its header at a place, refused by 9 where there is no room for it, and then records, each at the `next` of
+ * the one before it, refused by 8 where the frame has more than 2,048 bytes and then by 9. Little-endian pcap 2.4, zone 0, accuracy 0,
+ * snap length 2,048, link type 1. The room is `room_length` bytes long from its start, wherever the place is; bytes that nothing is written
+ * to stay as they are. Reading what was written gives the same seconds, microseconds, original lengths and bytes. */
+struct spritgrommet_written spritgrommet_put_header(uint8_t *room, size_t room_length, size_t at);
+struct spritgrommet_written spritgrommet_put_record(uint8_t *room, size_t room_length, size_t at, uint32_t seconds, uint32_t microseconds,
+                                                    uint32_t original, const uint8_t *frame, size_t frame_length);
 
 /* ---- the same, over a gateway ---- */
 

@@ -2,8 +2,9 @@
 
 use crate::random::Random;
 use std::fmt;
+use std::ops::Range;
 
-#[derive(Clone, Copy, PartialEq)]
+#[derive(Clone, Copy, Debug, PartialEq)]
 pub enum Order {
     Little,
     Big,
@@ -23,16 +24,32 @@ pub struct Capture {
     order: Order,
 }
 
+/// Where a capture's header holds zone, accuracy and snap length.
+const DECIDE_NOTHING: Range<usize> = 8..20;
+
 impl Capture {
     /// A capture without records. Zone, accuracy and snap length decide nothing, so they hold junk.
     pub fn new(order: Order, random: &mut Random) -> Capture {
+        let mut capture = Capture::plain(order);
+        capture.bytes[DECIDE_NOTHING].copy_from_slice(&random.bytes(DECIDE_NOTHING.len()));
+        capture
+    }
+
+    /// The same with zone 0, accuracy 0 and snap length 2,048: in little-endian order, what a capture writer writes.
+    pub fn plain(order: Order) -> Capture {
         let mut capture = Capture { bytes: Vec::new(), records: 0, order };
         capture.put([0xa1, 0xb2, 0xc3, 0xd4]);
         capture.put([0, 2]);
         capture.put([0, 4]);
-        capture.bytes.extend(random.bytes(12));
-        capture.put([0, 0, 0, 1]);
+        for word in [0_u32, 0, 2_048, 1] {
+            capture.put(word.to_be_bytes());
+        }
         capture
+    }
+
+    pub fn with_plain_header(mut self) -> Capture {
+        self.bytes[DECIDE_NOTHING].copy_from_slice(&Capture::plain(self.order).bytes[DECIDE_NOTHING]);
+        self
     }
 
     /// A whole record; now and then its original length isn't its captured length.

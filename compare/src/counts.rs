@@ -1,9 +1,11 @@
 //! What a program printed, counted: lines by verdict (v) and by refusal (R), and lines that name a replaced address.
 
+use crate::finding::Columns;
+
 const NAMES: [&str; 13] = ["v0", "v1", "v2", "v3", "v4", "v5", "v6", "R4", "R5", "R6", "R7", "R8", "replaced"];
 const REPLACED: usize = 12;
 
-#[derive(Default)]
+#[derive(Clone, Default)]
 pub struct Counts {
     /// In the order of `NAMES`.
     seen: [usize; NAMES.len()],
@@ -36,30 +38,36 @@ impl Counts {
         }
     }
 
-    pub fn add(&mut self, more: &Counts) {
+    /// How many of one name.
+    pub fn seen(&self, name: &str) -> usize {
+        NAMES.iter().zip(self.seen).filter(|(known, _)| **known == name).map(|(_, seen)| seen).sum()
+    }
+
+    /// The names of which nothing was seen.
+    pub fn missing(&self) -> Vec<&'static str> {
+        NAMES.into_iter().filter(|name| self.seen(name) == 0).collect()
+    }
+}
+
+impl Columns for Counts {
+    fn heading() -> String {
+        in_columns(NAMES.map(String::from))
+    }
+
+    fn cells(&self) -> String {
+        in_columns(self.seen.map(|seen| seen.to_string()))
+    }
+
+    fn add(&mut self, more: &Counts) {
         for (sum, part) in self.seen.iter_mut().zip(more.seen) {
             *sum += part;
         }
         self.unknown += more.unknown;
     }
 
-    /// Lines that tell of a record.
-    pub fn lines(&self) -> usize {
+    fn lines(&self) -> usize {
         self.seen[..REPLACED].iter().sum()
     }
-
-    /// The names of which nothing was seen.
-    pub fn missing(&self) -> Vec<&'static str> {
-        NAMES.into_iter().zip(self.seen).filter(|(_, seen)| *seen == 0).map(|(name, _)| name).collect()
-    }
-
-    pub fn cells(&self) -> String {
-        in_columns(self.seen.map(|seen| seen.to_string()))
-    }
-}
-
-pub fn heading() -> String {
-    in_columns(NAMES.map(String::from))
 }
 
 /// Refusals are fewer than the rest.

@@ -161,7 +161,7 @@ fn cut(packet: Packet, random: &mut Random) -> Vec<u8> {
 }
 
 /// ARP, IPv6, VLAN, and numbers that a program might take for IPv4's.
-fn other_type(packet: Packet, random: &mut Random) -> Vec<u8> {
+pub fn other_type(packet: Packet, random: &mut Random) -> Vec<u8> {
     let mut frame = packet.frame(random);
     let ether_type: u16 = random.pick(&[0x0806, 0x86dd, 0x8100, 0x0801, 0x0900, 0x0008]);
     set(&mut frame, 12, &ether_type.to_be_bytes());

@@ -1,25 +1,39 @@
-//! Makes captures from seeds and holds the outputs of two verdict-printing programs against each other: the commands.
+//! Makes captures from seeds and holds what programs do with them against each other: the commands.
 
 mod capture;
 mod counts;
 mod damage;
+mod differ;
+mod expected;
+mod finding;
+mod flow;
+mod forwarded;
 mod frames;
 mod judge;
+mod passing;
 mod random;
 mod report;
+mod run;
 mod traffic;
+mod walk;
 
 use capture::{Order, ORDERS};
-use damage::Specimen;
-use judge::{Finding, Judge};
+use counts::Counts;
+use finding::Examiner;
+use flow::Flow;
+use forwarded::Forwarders;
+use judge::Judge;
 use report::Report;
 use std::io::{self, Write};
 use std::process::ExitCode;
+use walk::Amount;
 
 const USAGE: &str = "usage:
   compare make SEED RECORDS [little|big]
   compare all FIRST SECOND [--seeds N] [--records N]
-  compare one FIRST SECOND FILE..";
+  compare one FIRST SECOND FILE..
+  compare forwarded FORWARDED SECOND_FORWARDED VERDICTS SECOND [--seeds N] [--records N]
+  compare forwarded-one FORWARDED SECOND_FORWARDED VERDICTS SECOND FILE..";
 
 /// Status 0 when all passed, 1 when something failed, 2 when the command could not be carried out.
 fn main() -> ExitCode {
@@ -42,8 +56,14 @@ fn carry_out(words: &[&str]) -> Result<bool, String> {
     match words {
         ["make", seed, records] => make(number(seed)?, record_count(records)?, None),
         ["make", seed, records, order] => make(number(seed)?, record_count(records)?, Some(byte_order(order)?)),
-        ["all", first, second, options @ ..] => all(&Judge { first, second }, options),
-        ["one", first, second, file, files @ ..] => one(&Judge { first, second }, file, files),
+        ["all", first, second, options @ ..] => all(&Judge { first, second }, &amount(options)?),
+        ["one", first, second, files @ ..] if !files.is_empty() => one(&Judge { first, second }, files),
+        ["forwarded", forwarded, second_forwarded, verdicts, second, options @ ..] => {
+            forwarded_all(&Forwarders { forwarded, second_forwarded, verdicts, second }, &amount(options)?)
+        }
+        ["forwarded-one", forwarded, second_forwarded, verdicts, second, files @ ..] if !files.is_empty() => {
+            one(&Forwarders { forwarded, second_forwarded, verdicts, second }, files)
+        }
         _ => Err(USAGE.into()),
     }
 }
@@ -65,76 +85,54 @@ fn record_count(word: &str) -> Result<usize, String> {
     }
 }
 
+fn amount(options: &[&str]) -> Result<Amount, String> {
+    let mut amount = Amount { seeds: 12, records: 20_000 };
+    for option in options.chunks(2) {
+        match option {
+            ["--seeds", count] => amount.seeds = number(count)?,
+            ["--records", count] => amount.records = record_count(count)?,
+            _ => return Err(USAGE.into()),
+        }
+    }
+    Ok(amount)
+}
+
 fn make(seed: u64, records: usize, order: Option<Order>) -> Result<bool, String> {
-    let capture = traffic::make(seed, records, order.unwrap_or(traffic::order_of(seed)));
+    let capture = traffic::main_capture(seed, records, order.unwrap_or(traffic::order_of(seed)));
     io::stdout().write_all(&capture.bytes).map_err(|error| format!("cannot write the capture: {error}"))?;
     Ok(true)
 }
 
-fn all(judge: &Judge, options: &[&str]) -> Result<bool, String> {
-    let (mut seeds, mut records) = (12, 20_000);
-    for option in options.chunks(2) {
-        match option {
-            ["--seeds", count] => seeds = number(count)?,
-            ["--records", count] => records = record_count(count)?,
-            _ => return Err(USAGE.into()),
-        }
-    }
-    let mut report = Report::new();
-    let (from_seeds, mut lacking) = compare_seeds(judge, seeds, records, &mut report)?;
-    let damaged = compare_damaged(judge, &mut report)?;
-    lacking.extend(report::lacking_together(&from_seeds.counts, &damaged.counts));
-    report::row("totals", "", &from_seeds.with(damaged), "");
-    report.add_vacuity(&lacking);
+fn all(judge: &Judge, amount: &Amount) -> Result<bool, String> {
+    let mut report = Report::new::<Counts>();
+    let from_seeds = walk::seeds(judge, amount, &mut report)?;
+    let damaged = walk::damaged(judge, &mut report)?;
+    let in_seed = |(seed, main): &(u64, Counts)| report::lacking_in_seed(*seed, amount.records, main);
+    let mut lacking: Vec<String> = from_seeds.mains.iter().flat_map(in_seed).collect();
+    lacking.extend(report::lacking_together(&from_seeds.sum.counts, &damaged.counts));
+    report::row("totals", "", &from_seeds.sum.with(damaged), "");
+    report.add_vacuity(&lacking, report::SHOWN_BY_VERDICTS);
     Ok(report.finish())
 }
 
-/// All seeds as one, and what single seeds lack. Two seeds are compared at once.
-fn compare_seeds(judge: &Judge, seeds: u64, records: usize, report: &mut Report) -> Result<(Finding, Vec<String>), String> {
-    let mut sum = Finding::default();
-    let mut lacking = Vec::new();
-    for first in (1..=seeds).step_by(2) {
-        let pair: Vec<u64> = (first..=seeds).take(2).collect();
-        let findings = judge::two_at_a_time(&pair, |seed| compare_seed(judge, *seed, records));
-        for (seed, finding) in pair.iter().zip(findings) {
-            let (finding, lacks) = finding?;
-            report.add(&format!("seed {seed}"), &traffic::order_of(*seed).to_string(), &finding);
-            sum = sum.with(finding);
-            lacking.extend(lacks);
-        }
-    }
-    Ok((sum, lacking))
+/// The same captures, and those in which all is forwarded.
+fn forwarded_all(forwarders: &Forwarders, amount: &Amount) -> Result<bool, String> {
+    let mut report = Report::new::<Flow>();
+    let from_seeds = walk::seeds(forwarders, amount, &mut report)?.sum;
+    let damaged = walk::damaged(forwarders, &mut report)?;
+    let [little, big] = ORDERS
+        .map(|order| walk::family(forwarders, "all forwarded", &order.to_string(), &passing::captures(order), &mut report));
+    let passing = little?;
+    let mut lacking = flow::lacking_where_all_is_forwarded(&passing);
+    let sum = from_seeds.with(damaged).with(passing).with(big?);
+    lacking.extend(flow::lacking_together(&sum.counts));
+    report::row("totals", "", &sum, "");
+    report.add_vacuity(&lacking, flow::SHOWN_BY_FLOW);
+    Ok(report.finish())
 }
 
-fn compare_seed(judge: &Judge, seed: u64, records: usize) -> Result<(Finding, Vec<String>), String> {
-    let order = traffic::order_of(seed);
-    let main = Specimen { what: "main capture".into(), bytes: traffic::make(seed, records, order).bytes };
-    let mut finding = judge.compare(&main)?;
-    let lacking = report::lacking_in_seed(seed, records, &finding.counts);
-    for specimen in damage::bad_ends(seed, order) {
-        finding = finding.with(judge.compare(&specimen)?);
-    }
-    Ok((finding, lacking))
-}
-
-fn compare_damaged(judge: &Judge, report: &mut Report) -> Result<Finding, String> {
-    let mut sum = Finding::default();
-    for order in ORDERS {
-        for (family, specimens) in [("prefixes", damage::prefixes(order)), ("changed bytes", damage::changed_bytes(order))] {
-            let finding = judge.compare_family(&specimens)?;
-            report.add(family, &order.to_string(), &finding);
-            sum = sum.with(finding);
-        }
-    }
-    Ok(sum)
-}
-
-fn one(judge: &Judge, file: &str, files: &[&str]) -> Result<bool, String> {
-    let mut report = Report::new();
-    for file in [file].iter().chain(files) {
-        let bytes = std::fs::read(file).map_err(|error| format!("cannot read {file}: {error}"))?;
-        let finding = judge.compare(&Specimen { what: "whole file".into(), bytes })?;
-        report.add(file, "-", &finding);
-    }
+fn one<E: Examiner>(examiner: &E, files: &[&str]) -> Result<bool, String> {
+    let mut report = Report::new::<E::Counts>();
+    walk::files(examiner, files, &mut report)?;
     Ok(report.finish())
 }

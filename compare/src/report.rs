@@ -1,8 +1,8 @@
 //! The table: a row for each seed, family or file, their totals, and whether the seeds show enough for their agreement to
 //! mean anything.
 
-use crate::counts::{self, Counts};
-use crate::judge::Finding;
+use crate::counts::Counts;
+use crate::finding::{Columns, Finding};
 use std::io::{self, Write};
 
 #[derive(Default)]
@@ -17,24 +17,24 @@ fn say(line: &str) {
 }
 
 impl Report {
-    pub fn new() -> Report {
-        say(&format!("{:<20} {:<6} {:>8} {:>8} {:>9}{}", "", "order", "captures", "records", "bytes", counts::heading()));
+    pub fn new<C: Columns>() -> Report {
+        say(&format!("{:<20} {:<6} {:>8} {:>8} {:>9}{}", "", "order", "captures", "records", "bytes", C::heading()));
         Report::default()
     }
 
-    pub fn add(&mut self, name: &str, order: &str, finding: &Finding) {
+    pub fn add<C: Columns>(&mut self, name: &str, order: &str, finding: &Finding<C>) {
         let outcome = finding.difference.as_ref().map_or("ok".into(), |difference| format!("DIFFERS: {difference}"));
         row(name, order, finding, &outcome);
         self.score(finding.difference.is_none());
     }
 
-    /// `lacking` is what the captures should have shown and did not.
-    pub fn add_vacuity(&mut self, lacking: &[String]) {
+    /// `lacking` is what the captures should have shown and did not; `shown` is said where nothing lacks.
+    pub fn add_vacuity(&mut self, lacking: &[String], shown: &str) {
         for lack in lacking {
             say(&format!("VACUOUS: {lack}"));
         }
         if lacking.is_empty() {
-            say("not vacuous: v0 to v6, R4 to R8 and replaced addresses were seen, v2, v3, v4 and v6 in every seed");
+            say(&format!("not vacuous: {shown}"));
         }
         self.score(lacking.is_empty());
     }
@@ -52,10 +52,12 @@ impl Report {
 }
 
 /// The number of records is that of the lines which tell of one: what was printed, not what was made.
-pub fn row(name: &str, order: &str, finding: &Finding, outcome: &str) {
+pub fn row<C: Columns>(name: &str, order: &str, finding: &Finding<C>, outcome: &str) {
     let (captures, bytes, records) = (finding.captures, finding.bytes, finding.counts.lines());
     say(&format!("{name:<20} {order:<6} {captures:>8} {records:>8} {bytes:>9}{} {outcome}", finding.counts.cells()));
 }
+
+pub const SHOWN_BY_VERDICTS: &str = "v0 to v6, R4 to R8 and replaced addresses were seen, v2, v3, v4 and v6 in every seed";
 
 /// A seed's main capture is whole, so each of its records has a line, and in each machines are credited, fresh and blocked.
 pub fn lacking_in_seed(seed: u64, records: usize, main: &Counts) -> Vec<String> {

@@ -6,10 +6,10 @@ use crate::random::Random;
 use Side::{Cell, Plant};
 
 const CELL: u32 = 0x0a00_0000; // 10.0.0.0/8
-const PLANT: u32 = 0xc0a8_0000; // 192.168.0.0/16
-const SIDES: [Side; 2] = [Cell, Plant];
-const PORTS: [u16; 8] = [0, 22, 80, 102, 443, 502, 44_818, 65_535];
-const PROTOCOLS: [u8; 9] = [TCP, TCP, UDP, UDP, UDP, 1, 47, 0, 255];
+pub const PLANT: u32 = 0xc0a8_0000; // 192.168.0.0/16
+pub const SIDES: [Side; 2] = [Cell, Plant];
+pub const PORTS: [u16; 8] = [0, 22, 80, 102, 443, 502, 44_818, 65_535];
+pub const PROTOCOLS: [u8; 9] = [TCP, TCP, UDP, UDP, UDP, 1, 47, 0, 255];
 
 /// The first and last address of either side, and their neighbours outside it.
 const EDGES: [u32; 8] =
@@ -24,7 +24,7 @@ const SEEN: [u8; 15] = [
 
 /// A session in full. One opened from the plant has the sides exchanged.
 #[rustfmt::skip]
-const SESSION: [(Side, u8); 10] = [
+pub const SESSION: [(Side, u8); 10] = [
     (Cell, SYN), (Plant, SYN | ACK), (Cell, ACK), (Cell, PSH | ACK), (Plant, PSH | ACK),
     (Plant, ACK), (Cell, FIN | ACK), (Plant, FIN | ACK), (Cell, ACK), (Plant, RST),
 ];
@@ -78,6 +78,11 @@ pub fn order_of(seed: u64) -> Order {
     ORDERS[((seed ^ (seed / 6)) % 2) as usize]
 }
 
+/// Its header is the one that a capture writer writes; those of the damaged captures hold junk.
+pub fn main_capture(seed: u64, records: usize, order: Order) -> Capture {
+    make(seed, records, order).with_plain_header()
+}
+
 pub fn make(seed: u64, records: usize, order: Order) -> Capture {
     let mut random = Random(seed);
     let capture = Capture::new(order, &mut random);
@@ -99,7 +104,7 @@ pub fn make(seed: u64, records: usize, order: Order) -> Capture {
 }
 
 /// The cell's addresses, scattered; numbers below 2^24 name different ones.
-fn cell_address(number: u32) -> u32 {
+pub fn cell_address(number: u32) -> u32 {
     CELL | (number.wrapping_mul(40_503) & 0x00ff_ffff)
 }
 

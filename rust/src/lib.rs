@@ -10,7 +10,7 @@ pub mod raw;
 use std::error::Error;
 use std::fmt;
 
-pub use capture::{Capture, Record};
+pub use capture::{Capture, CaptureWriter, Record};
 
 /// The settings. Their ranges are those of document 01; a gateway with a setting outside its range is refused by 1.
 #[repr(C)]

@@ -52,6 +52,12 @@ pub struct PlainNext {
     pub read: PlainRecord,
 }
 
+#[repr(C)]
+pub struct PlainWritten {
+    pub refusal: u8,
+    pub next: usize,
+}
+
 /// What judges a packet and what judges a frame take and answer.
 pub type Judge = unsafe extern "C" fn(
     settings: Settings,
@@ -141,4 +147,15 @@ extern "C" {
     pub fn spritgrommet_tally(totals: *mut u32, answer: PlainAnswer);
     pub fn spritgrommet_open(bytes: *const u8, length: usize) -> PlainOpening;
     pub fn spritgrommet_next(bytes: *const u8, length: usize, cursor: Cursor) -> PlainNext;
+    pub fn spritgrommet_put_header(room: *mut u8, room_length: usize, at: usize) -> PlainWritten;
+    pub fn spritgrommet_put_record(
+        room: *mut u8,
+        room_length: usize,
+        at: usize,
+        seconds: u32,
+        microseconds: u32,
+        original: u32,
+        frame: *const u8,
+        frame_length: usize,
+    ) -> PlainWritten;
 }

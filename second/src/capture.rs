@@ -1,4 +1,4 @@
-//! Classic pcap captures, version 2.4.
+//! Classic pcap captures, version 2.4: read in either byte order, written in one.
 
 use crate::refusal::Refusal;
 
@@ -24,9 +24,40 @@ impl ByteOrder {
     }
 }
 
+/// "the same seconds, microseconds, original lengths and bytes".
+#[derive(Clone, Copy, Debug, PartialEq, Eq)]
 pub struct Record<'a> {
     pub second: u32,
+    pub microsecond: u32,
+    pub original: u32,
     pub frame: &'a [u8],
+}
+
+/// A record has at most so many captured bytes.
+const MOST_CAPTURED: usize = 2048;
+
+/// How a written capture starts: "pcap 2.4, little-endian, link type 1", "zone 0, accuracy 0 and
+/// snap length 2,048".
+#[rustfmt::skip]
+pub const HEADER: [u8; 24] = [
+    0xd4, 0xc3, 0xb2, 0xa1, 2, 0, 4, 0, // The magic and the version,
+    0, 0, 0, 0, 0, 0, 0, 0, // zone and accuracy,
+    0, 8, 0, 0, 1, 0, 0, 0, // snap length and link type.
+];
+
+impl Record<'_> {
+    /// The record as it stands in a written capture. Refusal 8, "which the writer gives above 2,048
+    /// bytes".
+    pub fn written(&self) -> Result<Vec<u8>, Refusal> {
+        if self.frame.len() > MOST_CAPTURED {
+            return Err(Refusal::BadRecord);
+        }
+        let captured = self.frame.len() as u32;
+        let words = [self.second, self.microsecond, captured, self.original];
+        let mut bytes: Vec<u8> = words.into_iter().flat_map(u32::to_le_bytes).collect();
+        bytes.extend(self.frame);
+        Ok(bytes)
+    }
 }
 
 /// A capture whose header was good, and the bytes that are still to be read.
@@ -65,16 +96,16 @@ impl<'a> Capture<'a> {
         let Some((h, body)) = self.rest.split_first_chunk::<16>() else {
             return Some(Err(Refusal::BadRecord));
         };
-        let second = self.order.word([h[0], h[1], h[2], h[3]]);
-        let captured = self.order.word([h[8], h[9], h[10], h[11]]);
-        if captured > 2048 {
+        let word = |at| self.order.word([h[at], h[at + 1], h[at + 2], h[at + 3]]);
+        let [second, microsecond, captured, original] = [0, 4, 8, 12].map(word);
+        if captured as usize > MOST_CAPTURED {
             return Some(Err(Refusal::BadRecord));
         }
         let Some((frame, rest)) = body.split_at_checked(captured as usize) else {
             return Some(Err(Refusal::BadRecord));
         };
         self.rest = rest;
-        Some(Ok(Record { second, frame }))
+        Some(Ok(Record { second, microsecond, original, frame }))
     }
 }
 
@@ -145,5 +176,37 @@ mod tests {
             assert_eq!(told(&over), Some(Err(Refusal::BadRecord)));
             assert_eq!(told(&over[..40]), Some(Err(Refusal::BadRecord)));
         }
+    }
+
+    /// The bytes as one literal, so that neither the reader nor `samples` vouches for the writer.
+    #[test]
+    fn a_written_capture() {
+        let record =
+            Record { second: 0x0102_0304, microsecond: 5, original: 0xA0B0_C0D0, frame: &[7, 8] };
+        #[rustfmt::skip]
+        let bytes = [
+            0xd4, 0xc3, 0xb2, 0xa1, 2, 0, 4, 0, 0, 0, 0, 0, 0, 0, 0, 0, 0, 8, 0, 0, 1, 0, 0, 0,
+            4, 3, 2, 1, 5, 0, 0, 0, 2, 0, 0, 0, 0xd0, 0xc0, 0xb0, 0xa0, 7, 8,
+        ];
+        assert_eq!(
+            record.written().map(|record| [&HEADER[..], &record].concat()),
+            Ok(bytes.to_vec())
+        );
+    }
+
+    #[test]
+    fn reading_what_was_written() {
+        for length in [0, 1, 60, 2047, 2048] {
+            let frame: Vec<u8> = (0..length).map(|at| at as u8).collect();
+            let record =
+                Record { second: u32::MAX, microsecond: 1_999_999, original: 3, frame: &frame };
+            let written = record.written().map(|record| [&HEADER[..], &record].concat());
+            let Ok(bytes) = written else { panic!("{length} bytes are refused") };
+            let Ok(mut capture) = Capture::open(&bytes) else { panic!("the header is refused") };
+            assert_eq!(capture.next_record(), Some(Ok(record)));
+            assert_eq!(capture.next_record(), None);
+        }
+        let over = Record { second: 0, microsecond: 0, original: 0, frame: &[0; 2049] };
+        assert_eq!(over.written(), Err(Refusal::BadRecord));
     }
 }

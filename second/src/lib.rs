@@ -6,5 +6,6 @@ pub mod cipher;
 pub mod gateway;
 pub mod header;
 pub mod refusal;
+pub mod replay;
 pub mod samples;
 pub mod sides;

@@ -1,125 +1,52 @@
 //! The printing program: "It reads a capture on standard input" and prints a line for each record.
 #![forbid(unsafe_code)]
 
-use std::io::{self, BufWriter, Read, Write};
+use std::io::{self, Write};
 use std::net::Ipv4Addr;
 use std::process::ExitCode;
 
-use second::capture::{Capture, Record};
-use second::gateway::{Answer, Gateway, Settings};
-use second::refusal::Refusal;
-use second::sides::Sides;
-
-/// "a cold table of 4,096 records and 256 lines."
-const RECORDS: usize = 4096;
-const LINES: usize = 256;
+use second::gateway::Answer;
+use second::replay::{self, Replay};
 
 fn main() -> ExitCode {
-    let mut input = Vec::new();
-    if io::stdin().lock().read_to_end(&mut input).is_err() {
-        return ExitCode::FAILURE;
-    }
-    let mut out = BufWriter::new(io::stdout().lock());
-    match print(&input, &mut out).and_then(|()| out.flush()) {
-        Ok(()) => ExitCode::SUCCESS,
-        Err(_) => ExitCode::FAILURE,
-    }
+    replay::run(print)
 }
 
 /// Prints all the lines of a capture.
-fn print(input: &[u8], out: &mut impl Write) -> io::Result<()> {
-    let (read_whole, refusals) = match Capture::open(input) {
-        Ok(capture) => print_records(capture, out)?,
-        // "Refusal 7 prints as record 0." "After 7 or 8 it stops."
-        Err(refusal) => {
-            print_refusal(0, refusal, out)?;
-            (0, 1)
-        }
-    };
-    // "The last line is "end", records read whole, refusals."
-    writeln!(out, "end {read_whole} {refusals}")
-}
-
-/// Prints the lines of the records, and hands back the records read whole and the refusals.
-fn print_records(mut capture: Capture, out: &mut impl Write) -> io::Result<(u64, u64)> {
-    let mut read_whole = 0;
-    let mut refusals = 0;
-    let mut gateway = None;
-    while let Some(next) = capture.next_record() {
-        let record = match next {
-            Ok(record) => record,
-            // "After 7 or 8 it stops."
-            Err(refusal) => {
-                print_refusal(read_whole + 1, refusal, out)?;
-                refusals += 1;
-                break;
+fn print(input: &[u8], out: &mut dyn Write) -> io::Result<()> {
+    let end = match Replay::open(input) {
+        Ok(mut replay) => {
+            while let Some(judged) = replay.next_judged() {
+                match judged.answer {
+                    Ok(answer) => writeln!(out, "{}", answer_line(judged.number, answer))?,
+                    Err(refusal) => writeln!(out, "{}", refusal.line(judged.number))?,
+                }
             }
-        };
-        read_whole += 1;
-        // "starts cold at the first record's second, with factory settings"
-        let gateway = gateway.get_or_insert_with(|| {
-            Gateway::cold_start(Settings::FACTORY, Sides::PROGRAM, RECORDS, LINES, record.second)
-        });
-        match judge_frame(gateway, &record) {
-            Ok(answer) => print_answer(read_whole, answer, out)?,
-            Err(refusal) => {
-                print_refusal(read_whole, refusal, out)?;
-                refusals += 1;
-            }
+            replay.end()
         }
-    }
-    Ok((read_whole, refusals))
-}
-
-/// "An Ethernet frame under 14 bytes is refused by 5; EtherType other than 0x0800 prints verdict
-/// 0; neither reaches the gateway."
-fn judge_frame(gateway: &mut Gateway, record: &Record) -> Result<Answer, Refusal> {
-    let Some((ethernet, packet)) = record.frame.split_first_chunk::<14>() else {
-        return Err(Refusal::HeaderEndsTooSoon);
+        Err(end) => end,
     };
-    if [ethernet[12], ethernet[13]] != [0x08, 0x00] {
-        return Ok(Answer::NOT_OURS);
-    }
-    gateway.packet(record.second, packet)
+    write!(out, "{end}")
 }
 
 /// "A line is: record number from 1, verdict, count, replaced address in dotted form; "-" for a
 /// value that has none."
-fn print_answer(number: u64, answer: Answer, out: &mut impl Write) -> io::Result<()> {
+fn answer_line(number: u64, answer: Answer) -> String {
     let verdict = answer.verdict as u8;
     let count = answer.count.map_or("-".to_string(), |count| count.to_string());
     let replaced = answer.replaced.map_or("-".to_string(), |a| Ipv4Addr::from(a).to_string());
-    writeln!(out, "{number} {verdict} {count} {replaced}")
-}
-
-/// "A refusal prints the number, R and the refusal."
-fn print_refusal(number: u64, refusal: Refusal, out: &mut impl Write) -> io::Result<()> {
-    writeln!(out, "{number} R {}", refusal.number())
+    format!("{number} {verdict} {count} {replaced}")
 }
 
 #[cfg(test)]
 mod tests {
     use super::*;
-    use second::samples::{capture, ethernet, ip, tcp, udp};
-
-    const CELL: u32 = 0x0A00_0001;
-    const PLANT: u32 = 0xC0A8_0001;
+    use second::samples::{capture, ethernet, ip, session, udp, CELL, PLANT};
 
     fn printed(input: &[u8]) -> String {
         let mut out = Vec::new();
         assert!(print(input, &mut out).is_ok());
         String::from_utf8_lossy(&out).into_owned()
-    }
-
-    fn session() -> Vec<(u32, Vec<u8>)> {
-        let cell = (CELL, 40_000);
-        let plant = (PLANT, 80);
-        vec![
-            (100, ethernet(&tcp(cell, plant, 2))),
-            (100, ethernet(&tcp(plant, cell, 18))),
-            (100, ethernet(&tcp(cell, plant, 16))),
-            (100, ethernet(&udp(CELL, 0x0A00_0002))),
-        ]
     }
 
     #[test]
@@ -172,7 +99,7 @@ mod tests {
     #[test]
     fn a_full_line_prints_the_replaced_address() {
         // The first five cell addresses with the line of 10.0.0.0.
-        let line = |address| second::cipher::line(&[0; 8], address, LINES);
+        let line = |address| second::cipher::line(&[0; 8], address, replay::LINES);
         let same = |address: &u32| line(*address) == line(0x0A00_0000);
         let cells: Vec<u32> = (0x0A00_0000..0x0B00_0000).filter(same).take(5).collect();
         let records: Vec<_> = cells.iter().map(|c| (0, ethernet(&udp(*c, PLANT)))).collect();

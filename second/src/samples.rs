@@ -1,5 +1,9 @@
 //! Packets, frames and captures for the tests.
 
+/// A cell address and a plant address of the program's sides.
+pub const CELL: u32 = 0x0A00_0001;
+pub const PLANT: u32 = 0xC0A8_0001;
+
 /// An IPv4 packet with a header of five words.
 pub fn ip(protocol: u8, source: u32, destination: u32, body: &[u8]) -> Vec<u8> {
     let total = 20 + body.len() as u16;
@@ -32,7 +36,20 @@ pub fn ethernet(packet: &[u8]) -> Vec<u8> {
     frame
 }
 
-/// A capture of (second, frame) records.
+/// "Four records at second 100: 10.0.0.1 port 40000 to 192.168.0.1 port 80 SYN; its SYN+ACK back;
+/// the ACK; then UDP 10.0.0.1 to 10.0.0.2."
+pub fn session() -> Vec<(u32, Vec<u8>)> {
+    let cell = (CELL, 40_000);
+    let plant = (PLANT, 80);
+    vec![
+        (100, ethernet(&tcp(cell, plant, 2))),
+        (100, ethernet(&tcp(plant, cell, 18))),
+        (100, ethernet(&tcp(cell, plant, 16))),
+        (100, ethernet(&udp(CELL, 0x0A00_0002))),
+    ]
+}
+
+/// A capture of (second, frame) records, with zone 0, accuracy 0 and snap length 2,048.
 pub fn capture(little: bool, records: &[(u32, Vec<u8>)]) -> Vec<u8> {
     let word = |w: u32| {
         if little {
@@ -51,7 +68,7 @@ pub fn capture(little: bool, records: &[(u32, Vec<u8>)]) -> Vec<u8> {
     let mut bytes = word(0xa1b2_c3d4).to_vec();
     bytes.extend(half(2));
     bytes.extend(half(4));
-    for w in [0, 0, 65_535, 1] {
+    for w in [0, 0, 2048, 1] {
         bytes.extend(word(w));
     }
     for (second, frame) in records {

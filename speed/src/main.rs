@@ -8,7 +8,7 @@ mod judging;
 mod ours;
 mod permutation;
 mod plain;
-mod printing;
+mod programs;
 mod stopwatch;
 mod trace;
 
@@ -26,7 +26,8 @@ fn put(table: &str) {
         "1" => permutation::put_table(),
         "2" => judging::put_tables(),
         "3" => boundary::put_table(),
-        "4" => printing::put_table(),
+        "4" => programs::put_table(&programs::PRINTING),
+        "5" => programs::put_table(&programs::FORWARDING),
         "counts" => counts::put_tables(),
         _ => panic!("there is no table {table}"),
     }

@@ -10,7 +10,7 @@ use lib.Dec.{eqb, ltb}
 use lib.ListN.{length, getD, take, drop, length-append, length-take, length-drop, take-append-drop, drop-of-length-le}
 use borrow.Author.Tests.{ltb-false, eqb-true}
 use Rattle.laws.proofs.Tests.{true-is-not-false, or-left, or-right}
-use lib.Seq.{drop-drop, take-add, drop-at, take-at, take-append-le}
+use lib.Seq.{drop-drop, take-add, drop-at, take-at}
 use Rattle.words.specs.Words.{stored}
 use Rattle.words.proofs.Words.{all-stored, stored-length, stored-then}
 use Rattle.words.specs.Layouts.{Bytes, limit, four, bytesFor, numbersAt, Holds}
@@ -19,12 +19,11 @@ use Rattle.capture.specs.declared.Cursor.{Cursor}
 use Rattle.capture.specs.declared.Opened.{Opened}
 use Rattle.capture.specs.declared.Opened.the-variants.{Refused, Open}
 use Rattle.capture.specs.declared.Record.{Record}
-use Rattle.capture.specs.declared.Reading.{Reading}
 use Rattle.capture.specs.declared.Reading.the-variants.{End, Cut, Long, Whole}
 use Rattle.capture.specs.Format.{Stamped, stampedOf, recordWords, recordNumbers, recordBytes, recordsBytes, captureBytes, headerBytes}
 use Rattle.capture.specs.Format.{headerWords, magic, magicIn, majorIn, minorIn, zoneIn, accuracyIn, snapLengthIn, linkTypeIn}
 use Rattle.capture.specs.Capture.{bigEndian, badWords, badHeader, openedOf, headAt, nextOf}
-use Rattle.capture.specs.Whole.{Course, movedTo, stopped, onto, turn, inTurn, courseOf, Each, allBytes, bytesOf, stampedIn, recordsIn, Writable, AllWritable}
+use Rattle.capture.specs.Whole.{Course, movedTo, turn, inTurn, courseOf, Each, allBytes, bytesOf, stampedIn, recordsIn, Writable, AllWritable}
 use Rattle.capture.proofs.Readings.{opened, at-the-end, is-whole, tells, whole-record}
 use Rattle.capture.proofs.Whole.{covers}
 use Rattle.capture.proofs.Writings.{have-room, few-enough, the-header}
@@ -75,7 +74,7 @@ module _ (big : Bool) (before : List ℕ) (r : Stamped) (rest : List ℕ) (ok : 
     body =
         let front : length (before ++ header) ≡ at + 16 = length-append before header ∙ omega (arith, header-size) in
         let whole : l ≡ (before ++ header) ++ (r .bytes ++ rest) =
-          stands ∙ ap (_++_ before) (append-assoc header (r .bytes) rest) ∙ sym (append-assoc before header (r .bytes ++ rest)) in
+        stands ∙ ap (_++_ before) (append-assoc header (r .bytes) rest) ∙ sym (append-assoc before header (r .bytes ++ rest)) in
         ap (λ (n : ℕ). take n (drop (at + 16) l)) captured-is
         ∙ ap (λ (m : List ℕ). take (length (r .bytes)) (drop (at + 16) m)) whole
         ∙ ap (take (length (r .bytes))) (drop-at (before ++ header) (r .bytes ++ rest) (at + 16) front)
@@ -107,7 +106,7 @@ module _ (big : Bool) (l : List ℕ) where
       let rest : List ℕ = recordsBytes big records in
       let size = record-size big before r rest (ok .0) in
       let further = read-back turns (before ++ recordBytes big r) records (ok .1) (e ∙ sym (append-assoc before (recordBytes big r) rest))
-        (omega (arith, few, length-append (recordBytes big r) rest, size)) in
+      (omega (arith, few, length-append (recordBytes big r) rest, size)) in
       let moved = subst (λ n. Back records (inTurn turns l (cursorAt big n))) (sym (ends-one big before r rest (ok .0) l e)) further in
       subst (λ x. Back (r ∷ records) (turn (cursorAt big (length before)) (λ c. inTurn turns l c) x))
       (sym (reads-one big before r rest (ok .0) l e))
@@ -206,8 +205,8 @@ module _ (l : List ℕ) (bytes : Bytes l) where
       let facts = whole-record l cursor r e in
       let count : length (bytesOf l r) ≡ r .captured = length-take (r .captured) (drop (r .from) l) ∙ omega (arith, length-drop (r .from) l) in
       let words : recordNumbers (stampedIn l r) ≡ numbersAt big recordWords l at =
-        (λ i. t .1 i .seconds ∷ (t .1 i .microseconds ∷ (count i ∷ (t .1 i .original ∷ []))))
-        ∙ ap (λ (n : ℕ). headAt big at l .seconds ∷ (headAt big at l .microseconds ∷ (n ∷ (headAt big at l .original ∷ [])))) (ap (λ (x : Record). x .captured) (t .1)) in
+      (λ i. t .1 i .seconds ∷ (t .1 i .microseconds ∷ (count i ∷ (t .1 i .original ∷ []))))
+      ∙ ap (λ (n : ℕ). headAt big at l .seconds ∷ (headAt big at l .microseconds ∷ (n ∷ (headAt big at l .original ∷ [])))) (ap (λ (x : Record). x .captured) (t .1)) in
       let here : at + 0 ≡ at = add-zero at in
       let start : r .from - 16 ≡ at = omega arith in
       let body : r .from ≡ at + 16 = omega arith in
@@ -248,7 +247,7 @@ module _ (l : List ℕ) (bytes : Bytes l) where
   records-again (suc turns) cursor =
       (elim (nextOf l cursor) as
       (λ x. nextOf l cursor ≡ x → let course = turn cursor (λ c. inTurn turns l c) x in
-        recordsBytes (cursor .«big_endian») (map (stampedIn l) (course .records)) ≡ allBytes l (course .records)) [
+      recordsBytes (cursor .«big_endian») (map (stampedIn l) (course .records)) ≡ allBytes l (course .records)) [
         | End ↦ λ e. refl
         | Cut ↦ λ e. refl
         | Long ↦ λ e. refl
@@ -265,10 +264,10 @@ comes-back l bytes cursor e zone accuracy snap ended =
     let c = covers l cursor (omega (arith, o .long, o .at-first)) in
     let last : drop (courseOf l cursor .unread) l ≡ [] = drop-of-length-le l {i = courseOf l cursor .unread} (omega (arith, c .none-left ended)) in
     let rest : allBytes l (courseOf l cursor .records) ≡ drop 24 l =
-      sym (append-nil (allBytes l (courseOf l cursor .records)))
-      ∙ ap (_++_ (allBytes l (courseOf l cursor .records))) (sym last)
-      ∙ c .all
-      ∙ ap (λ (k : ℕ). drop k l) (o .at-first) in
+    sym (append-nil (allBytes l (courseOf l cursor .records)))
+    ∙ ap (_++_ (allBytes l (courseOf l cursor .records))) (sym last)
+    ∙ c .all
+    ∙ ap (λ (k : ℕ). drop k l) (o .at-first) in
     (λ i. header-again l bytes cursor o zone accuracy snap i ++ records-again l bytes (length l) cursor i)
     ∙ ap (_++_ (take 24 l)) rest
     ∙ take-append-drop 24 l

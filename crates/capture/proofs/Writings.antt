@@ -1,17 +1,16 @@
 -- What the writer answers and does to the room, case by case.
 -- Assumes nothing.
-use mathlib.Core.Path.{_≡_, refl, ap, _∙_, sym}
-use mathlib.Core.List.{List, [], _∷_, _++_, append-nil}
+use mathlib.Core.Path.{_≡_, refl, sym}
+use mathlib.Core.List.{List}
 use mathlib.Core.Bool.{false}
 use Prim.Native.Nat.{ℕ, _+_, _-_, _≤_, _<_}
-use native.Mathlib.Omega.{arith}
 use lib.ListN.{length}
 use borrow.Rule.Slice.PartMut.{midOf, putMid}
 use borrow.Author.Tests.{le-leb, lt-leb, lt-ltb, le-ltb}
 use Rattle.words.specs.Words.{stored}
 use Rattle.words.proofs.Words.{stored-by-part}
 use Rattle.capture.specs.Format.{headerBytes, Stamped, recordBytes}
-use Rattle.capture.specs.Writing.{Put, putOf, bytesPut, headerPut, recordPut}
+use Rattle.capture.specs.Writing.{putOf, bytesPut, headerPut, recordPut}
 use Rattle.capture.specs.declared.Written.the-variants.{Refused, Next}
 
 module _ (bytes : List ℕ) (at : ℕ) (room : List ℕ) where

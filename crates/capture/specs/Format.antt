@@ -3,9 +3,9 @@
 -- Assumes nothing.
 use mathlib.Core.Bool.{Bool}
 use mathlib.Core.List.{List, [], _∷_, _++_}
-use Prim.Native.Nat.{ℕ, _≤_}
+use Prim.Native.Nat.{ℕ}
 use lib.ListN.{length, getD}
-use Rattle.words.specs.Layouts.{Word, two, four, limit, numbersAt, bytesFor}
+use Rattle.words.specs.Layouts.{Word, two, four, numbersAt, bytesFor}
 
 -- ---- the header of a capture: magic, major and minor version, zone, accuracy, snap length, link type
 abbrev pub headerWords : List Word

@@ -17,12 +17,16 @@ use Rattle.capture.specs.declared.Opened.{Opened}
 use Rattle.capture.specs.declared.Opened.the-variants as opened
 use Rattle.capture.specs.declared.Reading.{Reading}
 use Rattle.capture.specs.declared.Reading.the-variants as reading
+use Rattle.capture.specs.declared.Written.{Written}
+use Rattle.capture.specs.declared.Written.the-variants as written
+use Rattle.capture.specs.Writing.{Put}
 use Rattle.gateway.specs.Calls.{After}
 use Rattle.tally.specs.Tally.{tallied, verdictNumbered}
 use Rattle.embed.specs.declared.plain.PlainAnswer.{PlainAnswer}
 use Rattle.embed.specs.declared.plain.PlainWinner.{PlainWinner}
 use Rattle.embed.specs.declared.plain.PlainOpening.{PlainOpening}
 use Rattle.embed.specs.declared.plain.PlainNext.{PlainNext}
+use Rattle.embed.specs.declared.plain.PlainWritten.{PlainWritten}
 
 -- what a call leaves, with its answer in plain numbers
 abbrev pub plainly : {A B : Type 0} → (A → B) → After A → After B
@@ -80,3 +84,19 @@ plainNext reading.End = noRecord 0
 plainNext reading.Cut = noRecord 8
 plainNext reading.Long = noRecord 8
 plainNext (reading.Whole read) = record { refusal = 0; whole = 1; read = read }
+
+-- refusals 8 and 9, or the place after what was written
+abbrev pub plainWritten : Written → PlainWritten
+plainWritten (written.Refused number) = record { refusal = number; next = 0 }
+plainWritten (written.Next next) = record { refusal = 0; next = next }
+
+-- what a call that writes leaves, with its answer in plain numbers
+pub record PlainPut : Type 0 where
+  pub answer : PlainWritten
+  pub room : List ℕ
+
+abbrev pub plainPutOf : PlainWritten → List ℕ → PlainPut
+plainPutOf answer room = record { answer = answer; room = room }
+
+abbrev pub plainPut : Put → PlainPut
+plainPut after = plainPutOf (plainWritten (after .answer)) (after .room)

@@ -7,9 +7,11 @@ ghost use Rattle.settings.specs.Settings.{factorySettings};
 ghost use Rattle.permute.specs.Permutation.{E, D};
 ghost use Rattle.sides.specs.Lists.{winningOf};
 ghost use Rattle.capture.specs.Capture.{openedOf, nextOf};
+ghost use Rattle.capture.specs.Format.{stampedOf};
+ghost use Rattle.capture.specs.Writing.{headerPut, recordPut};
 ghost use Rattle.gateway.specs.Calls.{afterOf, stateOf, refusalIn, started, passed, judged};
 ghost use Rattle.frames.specs.Frames.{frameJudged};
-ghost use Rattle.embed.specs.Plain.{plainly, plainAnswer, plainWinner, plainOpening, plainNext, verdictIn, totalsAfter};
+ghost use Rattle.embed.specs.Plain.{plainly, plainAnswer, plainWinner, plainOpening, plainNext, plainPutOf, plainPut, verdictIn, totalsAfter};
 
 pub mod plain;
 
@@ -19,6 +21,7 @@ use plain::PlainAnswer;
 use plain::PlainNext;
 use plain::PlainOpening;
 use plain::PlainWinner;
+use plain::PlainWritten;
 use rulings::answers::Answer;
 use settings::Settings;
 use tally::Tally;
@@ -166,4 +169,29 @@ pub extern "C" fn spritgrommet_next(bytes: &[u8], cursor: Cursor) -> PlainNext
     ensures { λ r. ⌜ r ≡ plainNext (nextOf (now (bytes .entry)) cursor) ⌝ }
 {
     plain::of_reading(capture::next(bytes, cursor))
+}
+
+// Writes a capture's header into the room at a place. The answer is refusal 9, or the place of the first record.
+#[no_mangle]
+pub extern "C" fn spritgrommet_put_header(room: &mut [u8], at: usize) -> PlainWritten
+    ensures { λ r. ⌜ plainPutOf r (now (room .exit)) ≡ plainPut (headerPut at (now (room .entry))) ⌝ }
+{
+    plain::of_written(capture::put_header(room, at))
+}
+
+// Writes a record into the room at a place. The answer is refusal 8 or 9, or the place of the next record.
+#[no_mangle]
+pub extern "C" fn spritgrommet_put_record(
+    room: &mut [u8],
+    at: usize,
+    seconds: u32,
+    microseconds: u32,
+    original: u32,
+    frame: &[u8],
+) -> PlainWritten
+    ensures { λ r. ⌜ plainPutOf r (now (room .exit))
+        ≡ plainPut (recordPut (stampedOf seconds microseconds original (now (frame .entry))) at (now (room .entry))) ⌝ }
+{
+    let written = capture::put_record(room, at, seconds, microseconds, original, frame);
+    plain::of_written(written)
 }

@@ -1,11 +1,12 @@
 // Answers as plain numbers, laid out as C does. A number that an answer does not have is 0.
 ghost use mathlib.Core.Path.{_≡_};
 ghost use Rattle.gateway.specs.Calls.{refusalIn};
-ghost use Rattle.embed.specs.Plain.{sideNumber, plainAnswer, plainJudged, plainWinner, plainOpening, noRecord, plainNext};
+ghost use Rattle.embed.specs.Plain.{sideNumber, plainAnswer, plainJudged, plainWinner, plainOpening, noRecord, plainNext, plainWritten};
 use capture::Cursor;
 use capture::Opened;
 use capture::Reading;
 use capture::Record;
+use capture::Written;
 use gateway::Reply;
 use rulings::answers::Answer;
 use rulings::answers::Replacement;
@@ -29,6 +30,13 @@ pub struct PlainAnswer {
 pub struct PlainWinner {
     pub side: u8,
     pub number: usize,
+}
+
+// A part of a capture written: the number of its refusal, or 0 and the place after it in the room.
+#[repr(C)]
+pub struct PlainWritten {
+    pub refusal: u8,
+    pub next: usize,
 }
 
 // A capture opened: the number of its refusal, or 0 and where the first record starts.
@@ -102,6 +110,16 @@ pub fn of_answer(answer: Answer) -> PlainAnswer
             count,
             replaced,
         } => of_judged(verdicts::number(verdict), count, replaced),
+    }
+}
+
+// What writing into a room answers, in plain numbers: the refusal, or 0 and the place after what was written.
+pub fn of_written(written: Written) -> PlainWritten
+    ensures { λ r. ⌜ r ≡ plainWritten written ⌝ }
+{
+    match written {
+        Written::Refused(refusal) => PlainWritten { refusal, next: 0 },
+        Written::Next(next) => PlainWritten { refusal: 0, next },
     }
 }
 

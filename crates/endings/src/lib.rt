@@ -13,7 +13,13 @@ pub fn one_more(number: u64) -> u64
 
 // Puts the lines for when no more records come: that of a record which is refused by 8, if one is, and the last line. Answers the place
 // after them in the room.
-pub fn put_ending(room: &mut [u8], at: usize, records: u64, refusals: u64, is_refused: bool) -> usize
+pub fn put_ending(
+    room: &mut [u8],
+    at: usize,
+    records: u64,
+    refusals: u64,
+    is_refused: bool,
+) -> usize
     ensures { λ r. ⌜ roomOf r (now (room .exit)) ≡ put (ending «is_refused» records refusals) (roomOf at (now (room .entry))) ⌝ }
 {
     if is_refused {

@@ -4,7 +4,7 @@
 use mathlib.Core.Bool.{Bool, true, false, cond}
 use mathlib.Core.List.{List, [], _∷_, _++_, map, append-assoc, append-nil}
 use mathlib.Core.Path.{_≡_, refl, sym, ap, _∙_}
-use Prim.Native.Nat.{ℕ, _+_, _-_, _≤_, _<_}
+use Prim.Native.Nat.{ℕ, _+_, _-_, _≤_}
 use native.Mathlib.Omega.{arith}
 use lib.ListN.{length, take, drop, length-take}
 use Rattle.laws.proofs.Tests.{cond-at}
@@ -17,15 +17,13 @@ use Rattle.capture.specs.Format.{Stamped, recordBytes, recordsBytes, captureByt
 use Rattle.capture.specs.Capture.{openedOf}
 use Rattle.capture.specs.Whole.{courseOf, Each, Tiles, bytesOf, stampedIn, recordsIn, Writable, AllWritable}
 use Rattle.capture.proofs.Whole.{Covers, covers, starts}
-use Rattle.capture.proofs.Roundtrip.{cursorAt, Ranged, all-ranged, ReadsBack, reads-back, comes-back}
-use Rattle.rulings.specs.declared.answers.Answer.{Answer}
+use Rattle.capture.proofs.Roundtrip.{Ranged, all-ranged, ReadsBack, reads-back, comes-back}
 use Rattle.rulings.specs.Answers.{forwardedTold}
 use Rattle.gateway.specs.Calls.{State}
 use Rattle.replay.specs.Replay.{frameIn}
 use Rattle.outputs.specs.declared.Output.the-variants.{Forwarded}
-use Rattle.outputs.specs.Outputs.{openingOf}
 use Rattle.feeding.specs.Feeding.{stampOf}
-use Rattle.feeding.specs.Whole.{Told, answered, toldNext, toldIn, atFirst, toldOfCapture, outputOf, forwardedIn, AllForwarded}
+use Rattle.feeding.specs.Whole.{Told, answered, toldNext, toldIn, atFirst, outputOf, forwardedIn, AllForwarded}
 
 -- what is put out for the records is the bytes of those that were forwarded
 pub told-forwarded : (l : List ℕ) (records : List Record) (t : Told)

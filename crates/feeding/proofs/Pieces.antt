@@ -3,9 +3,9 @@
 -- Assumes nothing.
 use mathlib.Core.List.{List, [], _∷_, _++_, map}
 use mathlib.Core.Path.{_≡_, refl, sym, ap, _∙_}
-use Prim.Native.Nat.{ℕ, zero, suc, _+_, _-_}
+use Prim.Native.Nat.{ℕ, zero, suc, _+_}
 use native.Mathlib.Omega.{arith}
-use lib.ListN.{length, take, drop}
+use lib.ListN.{length}
 use Rattle.capture.specs.declared.Cursor.{Cursor}
 use Rattle.capture.specs.declared.Record.{Record}
 use Rattle.capture.specs.declared.Reading.the-variants.{End, Cut, Long, Whole}
@@ -15,7 +15,7 @@ use Rattle.capture.proofs.Readings.{whole-record}
 use Rattle.capture.proofs.Pieces.{same-bytes, course-in-pieces}
 use Rattle.replay.specs.Replay.{frameIn, recordJudged}
 use Rattle.outputs.specs.declared.Output.{Output}
-use Rattle.feeding.specs.Whole.{Told, answered, toldNext, toldIn}
+use Rattle.feeding.specs.Whole.{Told, toldNext, toldIn}
 use Rattle.feeding.proofs.Output.{frame-is}
 
 -- records, and then others
@@ -50,7 +50,7 @@ module _ (output : Output) (past window rest : List ℕ) where
   window-due (suc turns) c t =
       (elim (nextOf window c) as
       (λ x. nextOf window c ≡ x → let records = turn c (λ d. inTurn turns window d) x .records in
-        toldIn output whole (map (laterRecord n) records) t ≡ toldIn output window records t) [
+      toldIn output whole (map (laterRecord n) records) t ≡ toldIn output window records t) [
         | End ↦ λ e. refl
         | Cut ↦ λ e. refl
         | Long ↦ λ e. refl

@@ -1,12 +1,12 @@
 -- What feeding puts out, where there is room for it, is what the records are due: of bytes that are a capture's, whole or a part.
 -- Assumes nothing.
-use mathlib.Core.Bool.{Bool, true, false, cond, _&&_, _||_}
+use mathlib.Core.Bool.{Bool, true, false, _&&_}
 use mathlib.Core.List.{List, [], _∷_, _++_}
 use mathlib.Core.Path.{_≡_, refl, sym, ap, subst, _∙_}
 use Prim.Native.Nat.{ℕ, zero, suc, _+_, _-_, _≤_}
 use native.Mathlib.Omega.{arith}
 use lib.Dec.{eqb, leb}
-use lib.ListN.{length, take, drop, length-append, length-take}
+use lib.ListN.{length, drop, length-append, length-take}
 use borrow.Author.Tests.{le-leb}
 use Rattle.words.specs.Words.{stored}
 use Rattle.words.proofs.Words.{stored-length, stored-then}
@@ -17,15 +17,13 @@ use Rattle.capture.specs.declared.Reading.the-variants as reading
 use Rattle.capture.specs.Capture.{nextOf}
 use Rattle.capture.specs.Whole.{Course, stopped, onto, turn, inTurn, courseOf}
 use Rattle.capture.proofs.Readings.{at-the-end, whole-record}
-use Rattle.gateway.specs.Calls.{State}
 use Rattle.lines.specs.Room.{roomOf}
 use Rattle.outputs.specs.declared.Output.{Output}
 use Rattle.outputs.specs.Outputs.{toldOf, toldPut}
 use Rattle.outputs.proofs.Whole.{told-whole}
 use Rattle.endings.specs.Endings.{oneMore}
 use Rattle.replay.specs.Replay.{frameIn, stepped, byReading}
-use Rattle.feeding.specs.declared.Progress.{Progress}
-use Rattle.feeding.specs.Feeding.{Page, pageOf, Replayed, replayedOf, stampOf, roomTold, told, toldBy, turned, toldRoom, canGoOn, fed}
+use Rattle.feeding.specs.Feeding.{Replayed, replayedOf, stampOf, toldBy, turned, toldRoom, canGoOn, fed}
 use Rattle.feeding.specs.Whole.{Told, answered, toldNext, toldIn}
 use Rattle.feeding.proofs.Cases.{goes-on, goes-no-further}
 
@@ -86,21 +84,21 @@ module _ (output : Output) (l : List ℕ) (big : Bool) (put : ℕ) (room : List 
         let few : length (frameIn l r) ≤ 2048 = omega (arith, length-take (r .end - r .from) (drop (r .from) l)) in
         let end : put + length (t .bytes) + length text ≡ put + length (t .bytes ++ text) = omega (arith, both) in
         let placed : toldPut output (oneMore (t .records)) (stampOf l r) (answered l r t .answer) (roomOf (put + length (t .bytes)) begun)
-            ≡ roomOf (put + length (t .bytes ++ text)) (stored (t .bytes ++ text) put room) =
-          told-whole (put + length (t .bytes)) begun output (oneMore (t .records)) (stampOf l r) (answered l r t .answer) few
-          (omega (arith, fits, both, stored-length (t .bytes) put room))
-          ∙ (λ i. roomOf (end i) (stored-then (t .bytes) text put room fits i)) in
+        ≡ roomOf (put + length (t .bytes ++ text)) (stored (t .bytes ++ text) put room) =
+        told-whole (put + length (t .bytes)) begun output (oneMore (t .records)) (stampOf l r) (answered l r t .answer) few
+        (omega (arith, fits, both, stored-length (t .bytes) put room))
+        ∙ (λ i. roomOf (end i) (stored-then (t .bytes) text put room fits i)) in
         turned-by (reading.Whole r) e
         ∙ (λ i. replayedOf
-          (record {
-            at = r .end;
-            put = placed i .end;
-            records = oneMore (t .records);
-            refusals = toldNext output l r t .refusals;
-            «has_more» = true;
-            «is_over» = over;
-          })
-          (placed i .bytes) (answered l r t .state))
+        (record {
+          at = r .end;
+          put = placed i .end;
+          records = oneMore (t .records);
+          refusals = toldNext output l r t .refusals;
+          «has_more» = true;
+          «is_over» = over;
+        })
+        (placed i .bytes) (answered l r t .state))
 
     -- the room has place for what may come next
     can-go : put + length (t .bytes) + toldRoom ≤ length room
@@ -156,8 +154,8 @@ module _ (output : Output) (l : List ℕ) (big : Bool) (put : ℕ) (room : List 
   fed-in-turn (suc turns) t at enough fits =
       (elim (nextOf l (cursor at)) as
       (λ x. nextOf l (cursor at) ≡ x → let course = turn (cursor at) (λ c. inTurn turns l c) x in
-        put + length (toldIn output l (course .records) t .bytes) + toldRoom ≤ length room
-        → After (toldIn output l (course .records) t) course (fed output (suc turns) l big (sofar t at true false))) [
+      put + length (toldIn output l (course .records) t .bytes) + toldRoom ≤ length room
+      → After (toldIn output l (course .records) t) course (fed output (suc turns) l big (sofar t at true false))) [
         | reading.End ↦ λ e h.
             subst (After t (stopped (cursor at) reading.End)) (last-turn turns t at false h (turned-by t at false reading.End e))
             (so t at false false [] reading.End refl)
@@ -175,7 +173,7 @@ module _ (output : Output) (l : List ℕ) (big : Bool) (put : ℕ) (room : List 
             let less = length-append (t .bytes) (toldOf output (oneMore (t .records)) (stampOf l r) (answered l r t .answer)) in
             let k = fed-in-turn turns u (r .end) (omega arith) h in
             let next = next-turn turns t at (omega (arith, h, more, less))
-              ∙ ap (fed output turns l big) (one-more t at false r e (omega (arith, h, more))) in
+            ∙ ap (fed output turns l big) (one-more t at false r e (omega (arith, h, more))) in
             subst (After (toldIn output l (rest .records) u) (onto (r ∷ []) rest)) (sym next)
             (record {
               put-is = k .put-is;

@@ -1,6 +1,6 @@
 -- What a program puts out for a whole capture: what each record is due, one after the other.
 -- Assumes nothing.
-use mathlib.Core.Bool.{Bool, true, false, cond}
+use mathlib.Core.Bool.{true, cond}
 use mathlib.Core.List.{List, [], _∷_, _++_}
 use mathlib.Core.Path.{_≡_}
 use Prim.Native.Nat.{ℕ}
@@ -9,7 +9,7 @@ use Rattle.capture.specs.declared.Cursor.{Cursor}
 use Rattle.capture.specs.declared.Record.{Record}
 use Rattle.capture.specs.Format.{Stamped}
 use Rattle.capture.specs.Capture.{recordRefusal}
-use Rattle.capture.specs.Whole.{Course, courseOf}
+use Rattle.capture.specs.Whole.{courseOf}
 use Rattle.rulings.specs.declared.answers.Answer.{Answer}
 use Rattle.rulings.specs.Answers.{forwardedTold}
 use Rattle.gateway.specs.Calls.{State, After}

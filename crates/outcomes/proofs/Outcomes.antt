@@ -4,6 +4,9 @@
 -- Assumes nothing.
 use Rattle.capture.proofs.next.Reads as capture-next
 use Rattle.capture.proofs.open.Reads as capture-open
+use Rattle.capture.proofs.put_header.Reads as capture-put-header
+use Rattle.capture.proofs.put_record.Reads as capture-put-record
+use Rattle.capture.specs.Writing.{putOf}
 use Rattle.cold.proofs.fill.Reads as cold-fill
 use Rattle.counts.proofs.decay_all.Reads as counts-decay-all
 use Rattle.counts.proofs.decayed.Reads as counts-decayed
@@ -16,6 +19,7 @@ use Rattle.embed.proofs.plain.of_opened.Reads as embed-plain-of-opened
 use Rattle.embed.proofs.plain.of_reading.Reads as embed-plain-of-reading
 use Rattle.embed.proofs.plain.of_reply.Reads as embed-plain-of-reply
 use Rattle.embed.proofs.plain.of_winning.Reads as embed-plain-of-winning
+use Rattle.embed.proofs.plain.of_written.Reads as embed-plain-of-written
 use Rattle.embed.proofs.spritgrommet_cold_start.Reads as embed-spritgrommet-cold-start
 use Rattle.embed.proofs.spritgrommet_decrypt.Reads as embed-spritgrommet-decrypt
 use Rattle.embed.proofs.spritgrommet_encrypt.Reads as embed-spritgrommet-encrypt
@@ -25,14 +29,19 @@ use Rattle.embed.proofs.spritgrommet_judge_frame.Reads as embed-spritgrommet-ju
 use Rattle.embed.proofs.spritgrommet_next.Reads as embed-spritgrommet-next
 use Rattle.embed.proofs.spritgrommet_open.Reads as embed-spritgrommet-open
 use Rattle.embed.proofs.spritgrommet_pass.Reads as embed-spritgrommet-pass
+use Rattle.embed.proofs.spritgrommet_put_header.Reads as embed-spritgrommet-put-header
+use Rattle.embed.proofs.spritgrommet_put_record.Reads as embed-spritgrommet-put-record
 use Rattle.embed.proofs.spritgrommet_tally.Reads as embed-spritgrommet-tally
 use Rattle.embed.proofs.spritgrommet_winner.Reads as embed-spritgrommet-winner
+use Rattle.embed.specs.Plain.{plainPutOf}
 use Rattle.endings.proofs.one_more.Reads as endings-one-more
 use Rattle.endings.proofs.put_ending.Reads as endings-put-ending
 use Rattle.endings.proofs.put_refused_header.Reads as endings-put-refused-header
 use Rattle.entries.proofs.count_of.Reads as entries-count-of
 use Rattle.entries.proofs.write.Reads as entries-write
 use Rattle.entries.specs.Entries.{writtenOf}
+use Rattle.feeding.proofs.feed.Reads as feeding-feed
+use Rattle.feeding.specs.Feeding.{replayedOf}
 use Rattle.frames.proofs.judge.Reads as frames-judge
 use Rattle.frames.proofs.what_is_in.Reads as frames-what-is-in
 use Rattle.gateway.proofs.cold_start.Reads as gateway-cold-start
@@ -43,6 +52,9 @@ use Rattle.gateway.specs.Calls.{stateOf}
 use Rattle.lines.proofs.put_last_line.Reads as lines-put-last-line
 use Rattle.lines.proofs.put_line.Reads as lines-put-line
 use Rattle.lines.specs.Room.{roomOf}
+use Rattle.outputs.proofs.is_forwarded.Reads as outputs-is-forwarded
+use Rattle.outputs.proofs.put_opening.Reads as outputs-put-opening
+use Rattle.outputs.proofs.put_told.Reads as outputs-put-told
 use Rattle.packet.proofs.Header.port.Reads as packet-header-port
 use Rattle.packet.proofs.kinds.of_flags.Reads as packet-kinds-of-flags
 use Rattle.packet.proofs.read.Reads as packet-read
@@ -51,8 +63,6 @@ use Rattle.permute.proofs.encrypt.Reads as permute-encrypt
 use Rattle.places.proofs.address_of.Reads as places-address-of
 use Rattle.places.proofs.place_of.Reads as places-place-of
 use Rattle.places.proofs.slot.Reads as places-slot
-use Rattle.printing.proofs.feed.Reads as printing-feed
-use Rattle.printing.specs.Printing.{printedOf}
 use Rattle.records.proofs.age_all.Reads as records-age-all
 use Rattle.records.proofs.aged.Reads as records-aged
 use Rattle.records.proofs.marks_of.Reads as records-marks-of
@@ -83,12 +93,17 @@ use Rattle.tables.specs.Tables.{tablesOf}
 use Rattle.tally.proofs.Tally.empty.Reads as tally-tally-empty
 use Rattle.tally.proofs.Tally.with.Reads as tally-tally-with
 use Rattle.tally.proofs.Tally.with_verdict.Reads as tally-tally-with-verdict
+use Rattle.verdicts.proofs.is_dropped.Reads as verdicts-is-dropped
 use Rattle.verdicts.proofs.number.Reads as verdicts-number
 use Rattle.verdicts.proofs.record_after.Reads as verdicts-record-after
 use Rattle.verdicts.proofs.verdict_of.Reads as verdicts-verdict-of
 use Rattle.words.proofs.four_at.Reads as words-four-at
 use Rattle.words.proofs.four_in.Reads as words-four-in
+use Rattle.words.proofs.has_room.Reads as words-has-room
 use Rattle.words.proofs.of_four.Reads as words-of-four
+use Rattle.words.proofs.store.Reads as words-store
+use Rattle.words.proofs.store_four.Reads as words-store-four
+use Rattle.words.proofs.store_two.Reads as words-store-two
 use Rattle.words.proofs.two_at.Reads as words-two-at
 use Rattle.words.proofs.two_in.Reads as words-two-in
 use denote.Ref.{now}
@@ -116,6 +131,18 @@ words-two-at-one κs a x y s t p q = same p q
 
 pub words-four-at-one : (κs : _) (a : _) → One (words-four-at.Learnt κs a) (λ x s. x)
 words-four-at-one κs a x y s t p q = same p q
+
+pub words-has-room-one : (κs : _) (a : _) → One (words-has-room.Learnt κs a) (λ x s. x)
+words-has-room-one κs a x y s t p q = same p q
+
+pub words-store-one : (κs : _) (a : _) → One (words-store.Learnt κs a) (λ x s. now (s .0))
+words-store-one κs a x y s t p q = same p q
+
+pub words-store-two-one : (κs : _) (a : _) → One (words-store-two.Learnt κs a) (λ x s. now (s .0))
+words-store-two-one κs a x y s t p q = same p q
+
+pub words-store-four-one : (κs : _) (a : _) → One (words-store-four.Learnt κs a) (λ x s. now (s .0))
+words-store-four-one κs a x y s t p q = same p q
 
 pub settings-settings-factory-one : (κs : _) (a : _) → One (settings-settings-factory.Learnt κs a) (λ x s. x)
 settings-settings-factory-one κs a x y s t p q = same (p .0) (q .0)
@@ -180,6 +207,12 @@ capture-open-one κs a x y s t p q = same p q
 pub capture-next-one : (κs : _) (a : _) → One (capture-next.Learnt κs a) (λ x s. x)
 capture-next-one κs a x y s t p q = same p q
 
+pub capture-put-header-one : (κs : _) (a : _) → One (capture-put-header.Learnt κs a) (λ x s. putOf x (now (s .0)))
+capture-put-header-one κs a x y s t p q = same p q
+
+pub capture-put-record-one : (κs : _) (a : _) → One (capture-put-record.Learnt κs a) (λ x s. putOf x (now (s .0)))
+capture-put-record-one κs a x y s t p q = same p q
+
 pub records-marks-of-one : (κs : _) (a : _) → One (records-marks-of.Learnt κs a) (λ x s. x)
 records-marks-of-one κs a x y s t p q = same p q
 
@@ -228,6 +261,9 @@ tables-sizes-bad-sizes-one κs a x y s t p q = same p q
 pub verdicts-number-one : (κs : _) (a : _) → One (verdicts-number.Learnt κs a) (λ x s. x)
 verdicts-number-one κs a x y s t p q = same p q
 
+pub verdicts-is-dropped-one : (κs : _) (a : _) → One (verdicts-is-dropped.Learnt κs a) (λ x s. x)
+verdicts-is-dropped-one κs a x y s t p q = same p q
+
 pub verdicts-verdict-of-one : (κs : _) (a : _) → One (verdicts-verdict-of.Learnt κs a) (λ x s. x)
 verdicts-verdict-of-one κs a x y s t p q = same p q
 
@@ -273,8 +309,6 @@ tally-tally-with-verdict-one κs a x y s t p q = same p q
 pub tally-tally-with-one : (κs : _) (a : _) → One (tally-tally-with.Learnt κs a) (λ x s. x)
 tally-tally-with-one κs a x y s t p q = same p q
 
--- tally::add is left out: its proof is a walk by hand, for which there is no `Learnt`; its contract is the equation of `Tally::with`
-
 pub frames-what-is-in-one : (κs : _) (a : _) → One (frames-what-is-in.Learnt κs a) (λ x s. x)
 frames-what-is-in-one κs a x y s t p q = same p q
 
@@ -283,6 +317,15 @@ frames-judge-one κs a x y s t p q = same p q
 
 pub replay-next-one : (κs : _) (a : _) → One (replay-next.Learnt κs a) (λ x s. afterOf x (now (s .1 .1 .1 .0)) (now (s .1 .1 .1 .1 .0)) (now (s .1 .1 .1 .1 .1 .0)) (now (s .1 .1 .1 .1 .1 .1 .0)))
 replay-next-one κs a x y s t p q = same p q
+
+pub outputs-is-forwarded-one : (κs : _) (a : _) → One (outputs-is-forwarded.Learnt κs a) (λ x s. x)
+outputs-is-forwarded-one κs a x y s t p q = same p q
+
+pub outputs-put-told-one : (κs : _) (a : _) → One (outputs-put-told.Learnt κs a) (λ x s. roomOf x (now (s .1 .0)))
+outputs-put-told-one κs a x y s t p q = same p q
+
+pub outputs-put-opening-one : (κs : _) (a : _) → One (outputs-put-opening.Learnt κs a) (λ x s. roomOf x (now (s .1 .0)))
+outputs-put-opening-one κs a x y s t p q = same p q
 
 pub endings-one-more-one : (κs : _) (a : _) → One (endings-one-more.Learnt κs a) (λ x s. x)
 endings-one-more-one κs a x y s t p q = same p q
@@ -293,13 +336,11 @@ endings-put-ending-one κs a x y s t p q = same p q
 pub endings-put-refused-header-one : (κs : _) (a : _) → One (endings-put-refused-header.Learnt κs a) (λ x s. roomOf x (now (s .0)))
 endings-put-refused-header-one κs a x y s t p q = same p q
 
-pub printing-feed-one : (κs : _) (a : _) → One (printing-feed.Learnt κs a) (λ x s. printedOf x (now (s .1 .1 .0)) (stateOf (now (s .1 .1 .1 .0)) (now (s .1 .1 .1 .1 .0)) (now (s .1 .1 .1 .1 .1 .0)) (now (s .1 .1 .1 .1 .1 .1 .0))))
-printing-feed-one κs a x y s t p q = same p q
+pub feeding-feed-one : (κs : _) (a : _) → One (feeding-feed.Learnt κs a) (λ x s. replayedOf x (now (s .1 .1 .1 .0)) (stateOf (now (s .1 .1 .1 .1 .0)) (now (s .1 .1 .1 .1 .1 .0)) (now (s .1 .1 .1 .1 .1 .1 .0)) (now (s .1 .1 .1 .1 .1 .1 .1 .0))))
+feeding-feed-one κs a x y s t p q = same p q
 
 pub streams-shift-one : (κs : _) (a : _) → One (streams-shift.Learnt κs a) (λ x s. heldOf x (now (s .0)))
 streams-shift-one κs a x y s t p q = same p q
-
--- streams::fill is left out: it reads standard input, and what is read no contract can say
 
 pub streams-within-one : (κs : _) (a : _) → One (streams-within.Learnt κs a) (λ x s. x)
 streams-within-one κs a x y s t p q = same (p .1) (q .1)
@@ -337,11 +378,20 @@ embed-spritgrommet-open-one κs a x y s t p q = same p q
 pub embed-spritgrommet-next-one : (κs : _) (a : _) → One (embed-spritgrommet-next.Learnt κs a) (λ x s. x)
 embed-spritgrommet-next-one κs a x y s t p q = same p q
 
+pub embed-spritgrommet-put-header-one : (κs : _) (a : _) → One (embed-spritgrommet-put-header.Learnt κs a) (λ x s. plainPutOf x (now (s .0)))
+embed-spritgrommet-put-header-one κs a x y s t p q = same p q
+
+pub embed-spritgrommet-put-record-one : (κs : _) (a : _) → One (embed-spritgrommet-put-record.Learnt κs a) (λ x s. plainPutOf x (now (s .0)))
+embed-spritgrommet-put-record-one κs a x y s t p q = same p q
+
 pub embed-plain-of-reply-one : (κs : _) (a : _) → One (embed-plain-of-reply.Learnt κs a) (λ x s. x)
 embed-plain-of-reply-one κs a x y s t p q = same p q
 
 pub embed-plain-of-answer-one : (κs : _) (a : _) → One (embed-plain-of-answer.Learnt κs a) (λ x s. x)
 embed-plain-of-answer-one κs a x y s t p q = same p q
+
+pub embed-plain-of-written-one : (κs : _) (a : _) → One (embed-plain-of-written.Learnt κs a) (λ x s. x)
+embed-plain-of-written-one κs a x y s t p q = same p q
 
 pub embed-plain-of-winning-one : (κs : _) (a : _) → One (embed-plain-of-winning.Learnt κs a) (λ x s. x)
 embed-plain-of-winning-one κs a x y s t p q = same p q
@@ -351,3 +401,9 @@ embed-plain-of-opened-one κs a x y s t p q = same p q
 
 pub embed-plain-of-reading-one : (κs : _) (a : _) → One (embed-plain-of-reading.Learnt κs a) (λ x s. x)
 embed-plain-of-reading-one κs a x y s t p q = same p q
+
+-- programs::replay is left out: it answers nothing, is lent nothing, and what it reads and writes no contract can say
+
+-- streams::fill is left out: it reads standard input, and what is read no contract can say
+
+-- tally::add is left out: its proof is a walk by hand, for which there is no `Learnt`; its contract is the equation of `Tally::with`

@@ -8,7 +8,7 @@ use native.Mathlib.Nat.{div-div-eq-div-mul}
 use native.Mathlib.Omega.{arith}
 use lib.ListN.{length, getD, take, drop, length-append}
 use lib.Seq.{getD-append-add, drop-cons, drop-drop, take-add}
-use Rattle.words.specs.Words.{ofTwo, ofFour, twoBytes, fourBytes, twoIn, fourIn}
+use Rattle.words.specs.Words.{ofTwo, ofFour}
 use Rattle.words.specs.Layouts.{Word, two, four, size, limit, numberIn, bytesIn, sizes, numbersFrom, bytesFor, Holds, Bytes}
 
 -- ---- one word
@@ -83,10 +83,10 @@ numbers-back big (w ∷ words) (n ∷ numbers) before rest at past e h =
     let here : before ++ ((bytes ++ more) ++ rest) ≡ before ++ (bytes ++ (more ++ rest)) = ap (_++_ before) (append-assoc bytes more rest) in
     let further : before ++ ((bytes ++ more) ++ rest) ≡ (before ++ bytes) ++ (more ++ rest) = here ∙ sym (append-assoc before bytes (more ++ rest)) in
     let first : numberIn big w (before ++ ((bytes ++ more) ++ rest)) (at + past) ≡ n =
-      ap (λ (l : List ℕ). numberIn big w l (at + past)) here ∙ number-back big (more ++ rest) w n before (at + past) (sym e) (h .0) in
+    ap (λ (l : List ℕ). numberIn big w l (at + past)) here ∙ number-back big (more ++ rest) w n before (at + past) (sym e) (h .0) in
     let others : numbersFrom big words (before ++ ((bytes ++ more) ++ rest)) at (past + size w) ≡ numbers =
-      ap (λ (l : List ℕ). numbersFrom big words l at (past + size w)) further
-      ∙ numbers-back big words numbers (before ++ bytes) rest at (past + size w) longer (h .1) in
+    ap (λ (l : List ℕ). numbersFrom big words l at (past + size w)) further
+    ∙ numbers-back big words numbers (before ++ bytes) rest at (past + size w) longer (h .1) in
     λ i. first i ∷ others i
 
 -- ---- what was read is written

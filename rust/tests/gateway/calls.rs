@@ -2,7 +2,8 @@
 
 use crate::random::Random;
 use second::samples;
-use spritgrommet::{decrypt, encrypt, tally, winner, Answer, Capture, Gateway, Refusal, Settings, Side, Verdict};
+use spritgrommet::{decrypt, encrypt, tally, winner};
+use spritgrommet::{Answer, Capture, CaptureWriter, Gateway, Record, Refusal, Settings, Side, Verdict};
 
 const CELL: [u8; 5] = [10, 0, 0, 0, 8];
 const PLANT: [u8; 5] = [192, 168, 0, 0, 16];
@@ -134,4 +135,29 @@ fn captures() {
         assert_eq!(cut[2], Err(Refusal(8)));
     }
     assert_eq!(Capture::open(&[0; 24]).err(), Some(Refusal(7)));
+}
+
+/// What the second program's writer writes is what is written, and nothing where it is refused.
+#[test]
+fn written_captures() {
+    let frames = [vec![], vec![7; 60], (0..2048).map(|at| at as u8).collect::<Vec<u8>>()];
+    let mut room = [0xEE; 24 + 3 * 16 + 60 + 2048];
+    let mut expected = second::capture::HEADER.to_vec();
+    let mut writer = CaptureWriter::start(&mut room).expect("room for the header");
+    for (number, frame) in (1..).zip(&frames) {
+        let (seconds, microseconds, original) = (u32::MAX - number, number << 24, number << 8);
+        let too_long = Record { seconds, microseconds, original, frame: &[0; 2049] };
+        assert_eq!(writer.put(&too_long), Err(Refusal(8)));
+        writer.put(&Record { seconds, microseconds, original, frame }).expect("room for the record");
+        let record = second::capture::Record { second: seconds, microsecond: microseconds, original, frame };
+        expected.extend(record.written().expect("no more than 2,048 bytes"));
+        assert_eq!(writer.written(), expected);
+    }
+    let empty = Record { seconds: 0, microseconds: 0, original: 0, frame: &[] };
+    assert_eq!(writer.put(&empty), Err(Refusal(9)));
+    assert_eq!(writer.written(), expected);
+    assert_eq!(room[..], expected);
+    let mut small = [0xEE; 23];
+    assert_eq!(CaptureWriter::start(&mut small).err(), Some(Refusal(9)));
+    assert_eq!(small, [0xEE; 23]);
 }

@@ -42,9 +42,9 @@ tell-requires : tie.Need-tell-requires
 tell-requires c κs =
     let s = c .before .before .before .before .before .before .before .before .before .before .before .before .before .before .before .before .before .before .before in
     let whole = judged-is-whole (eqb (s .args .progress .records) 0) (now (s .args .bytes))
-      (record { at = s .args .progress .at; «big_endian» = s .args .big-endian })
-      (stateOf (now (s .args .records)) (now (s .args .tags)) (now (s .args .counts)) (now (s .args .clock))) _ _ _
-      (c .before .before .before .before .before .before .before .before .before .next .ensures) (c .before .before .read .given .1) in
+    (record { at = s .args .progress .at; «big_endian» = s .args .big-endian })
+    (stateOf (now (s .args .records)) (now (s .args .tags)) (now (s .args .counts)) (now (s .args .clock))) _ _ _
+    (c .before .before .before .before .before .before .before .before .before .next .ensures) (c .before .before .read .given .1) in
     let told = whole-record _ _ _ whole in
     (omega (arith, told .1), told .3)
 

@@ -2,8 +2,6 @@
 -- Assumes nothing.
 use mathlib.Core.Path.{_∙_, ap}
 use Prim.Native.Nat.{ℕ}
-use denote.Ref.{now}
-use Rattle.capture.specs.Writing.{Put, putOf}
 use Rattle.lines.specs.Room.{roomOf}
 use Rattle.outputs.specs.Outputs.{roomAfter}
 use borrow.Author.Needs.{needs}
