@@ -13,7 +13,7 @@ pub fn differing_line(first: &[u8], second: &[u8]) -> String {
     }
 }
 
-/// The longest line of document 01's is shorter than this.
+/// As much of a line as shows where it differs.
 fn quoted(line: Option<&[u8]>) -> String {
     line.map_or("no line".into(), |line| format!("{:?}", String::from_utf8_lossy(&line[..line.len().min(40)])))
 }

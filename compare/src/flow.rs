@@ -64,7 +64,7 @@ impl Columns for Flow {
 }
 
 pub const SHOWN_BY_FLOW: &str =
-    "v5, v6, refused records, R7, R8 and big-endian captures were seen, and all captures came back where all is forwarded";
+    "v5, v6, refused records, R7, R8 and big-endian captures were seen, and all little-endian captures came back where all is forwarded";
 
 /// No column may be empty.
 pub fn lacking_together(all: &Flow) -> Vec<String> {

@@ -1,4 +1,4 @@
-//! A second gateway, in plain Rust, written from document 01 alone. It shares nothing with the proved one, which it is held against.
+//! A second gateway, in plain Rust, written from documents 01 and 02 alone. It shares nothing with the proved one, which it is held against.
 #![forbid(unsafe_code)]
 
 pub mod capture;

@@ -4,7 +4,7 @@ use mathlib.Core.Bool.{true, false, false≢true}
 use mathlib.Core.List.{List, [], _∷_, _++_}
 use mathlib.Core.Logic.{inl, inr, ⊎-elim}
 use mathlib.Core.Path.{_≡_, refl, sym, ap, _∙_}
-use Prim.Native.Nat.{ℕ, zero, suc, _+_, _≤_, _<_}
+use Prim.Native.Nat.{ℕ, zero, suc, _+_, _-_, _≤_, _<_}
 use native.Mathlib.Nat.{zero-add}
 use native.Mathlib.Omega.{arith}
 use lib.ListN.{length, getD, take, drop, length-append, length-drop, List·getD-append}
@@ -104,8 +104,10 @@ module _ (past window rest : List ℕ) where
   pub same-bytes : (c : Cursor) (r : Record) → nextOf window c ≡ Whole r → bytesOf whole (laterRecord n r) ≡ bytesOf window r
   same-bytes c r e =
       let facts = whole-record window c r e in
-      ap (take (r .captured)) (drop-append-add past (window ++ rest) (r .from) ∙ drop-append-le (r .from) window rest (omega arith))
-      ∙ take-append-le (r .captured) (drop (r .from) window) rest (omega (arith, length-drop (r .from) window))
+      let count : n + r .end - (n + r .from) ≡ r .end - r .from = omega arith in
+      ap (λ (k : ℕ). take k (drop (n + r .from) whole)) count
+      ∙ ap (take (r .end - r .from)) (drop-append-add past (window ++ rest) (r .from) ∙ drop-append-le (r .from) window rest (omega arith))
+      ∙ take-append-le (r .end - r .from) (drop (r .from) window) rest (omega (arith, length-drop (r .from) window))
 
   -- and in turn: the records read in the window, however many, are the whole's first, and its course goes on where the window's stopped
   pub course-in-pieces : (turns : ℕ) (c : Cursor) → courseOf whole (later n c) ≡ goneOn whole n c (inTurn turns window c)

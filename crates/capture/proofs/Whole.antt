@@ -1,15 +1,17 @@
 -- Reading a whole capture in turn ends, never passes its end, and covers every byte that it does not refuse.
 -- Assumes nothing.
-use mathlib.Core.Bool.{Bool, true, false, cond}
+use mathlib.Core.Bool.{Bool, true, false, cond, not, _||_}
 use mathlib.Core.List.{List, [], _∷_, _++_, append-assoc}
 use mathlib.Core.Logic.{_≢_}
 use mathlib.Core.Path.{_≡_, refl, sym, ap, subst, _∙_}
 use Prim.Native.Nat.{ℕ, zero, suc, _+_, _-_, _≤_, _<_}
 use native.Mathlib.Omega.{arith}
-use lib.Dec.{ltb}
+use lib.Dec.{eqb, ltb}
 use lib.ListN.{length, take, drop, take-append-drop}
 use lib.Seq.{drop-drop}
-use borrow.Author.Tests.{ltb-false}
+use borrow.Author.Tests.{ltb-false, eqb-true, not-false}
+use Rattle.laws.proofs.Tests.{or-left, or-right}
+use Rattle.capture.specs.Format.{magic, magicIn, majorIn, minorIn, linkTypeIn}
 use Rattle.capture.specs.declared.Cursor.{Cursor}
 use Rattle.capture.specs.declared.Opened.{Opened}
 use Rattle.capture.specs.declared.Opened.the-variants.{Refused, Open}
@@ -137,24 +139,55 @@ covers l cursor h =
     left Long o e m = refl
     left (Whole r) o e m = absurd o
 
--- a capture that opens has its header of 24 bytes, and its first record starts there
-pub starts : (l : List ℕ) (cursor : Cursor) → openedOf l ≡ Open cursor → (cursor .at ≡ 24) × (24 ≤ length l)
-unfolding openedOf badHeader
-starts l cursor e = subst Starts e (go (ltb (length l) 24) (badWords (bigEndian l) l) (ltb-false _ _))
-  where
-    Starts : Opened → Type 0
-    Starts (Refused number) = Unit {0}
-    Starts (Open c) = (c .at ≡ 24) × (24 ≤ length l)
+-- a capture that opens has its header, and its first record starts behind it; what its words say
+pub record Opens (l : List ℕ) (cursor : Cursor) : Type 0 where
+  pub long : 24 ≤ length l
+  pub at-first : cursor .at ≡ 24
+  pub magic-is : magicIn (cursor .«big_endian») l ≡ magic
+  pub major-is : majorIn (cursor .«big_endian») l ≡ 2
+  pub minor-is : minorIn (cursor .«big_endian») l ≡ 4
+  pub link-is : linkTypeIn (cursor .«big_endian») l ≡ 1
 
-    go : (short bad : Bool) → (short ≡ false → 24 ≤ length l)
-        → Starts (cond (cond short true bad) (Refused 7) (Open (record { at = 24; «big_endian» = bigEndian l })))
-    go true bad h = tt
-    go false true h = tt
-    go false false h = (refl, h refl)
+is-so : (a b : ℕ) → not (eqb a b) ≡ false → a ≡ b
+is-so a b e = eqb-true a b (not-false (eqb a b) e)
+
+pub says : (l : List ℕ) (cursor : Cursor) → openedOf l ≡ Open cursor → Opens l cursor
+unfolding openedOf badHeader
+says l cursor e = subst Says e (go (ltb (length l) 24) (badWords big l) (ltb-false _ _) words)
+  where
+    big : Bool
+    big = bigEndian l
+
+    first : Cursor
+    first = record { at = 24; «big_endian» = big }
+
+    Says : Opened → Type 0
+    Says (Refused number) = Unit {0}
+    Says (Open c) = Opens l c
+
+    words : badWords big l ≡ false → 24 ≤ length l → Opens l (first)
+    words q long =
+        let first = or-left (not (eqb (magicIn big l) magic)) _ q in
+        let others = or-right (not (eqb (magicIn big l) magic)) _ q in
+        let version = or-left (not (eqb (majorIn big l) 2) || not (eqb (minorIn big l) 4)) _ others in
+        record {
+          long = long;
+          at-first = refl;
+          magic-is = is-so (magicIn big l) magic first;
+          major-is = is-so (majorIn big l) 2 (or-left (not (eqb (majorIn big l) 2)) _ version);
+          minor-is = is-so (minorIn big l) 4 (or-right (not (eqb (majorIn big l) 2)) _ version);
+          link-is = is-so (linkTypeIn big l) 1 (or-right (not (eqb (majorIn big l) 2) || not (eqb (minorIn big l) 4)) _ others);
+        }
+
+    go : (short bad : Bool) → (short ≡ false → 24 ≤ length l) → (bad ≡ false → 24 ≤ length l → Opens l (first))
+        → Says (cond (cond short true bad) (Refused 7) (Open (first)))
+    go true bad h w = tt
+    go false true h w = tt
+    go false false h w = w refl (h refl)
 
 -- so it is of a whole capture: of every one that opens, from its first record on
 pub whole-capture : (l : List ℕ) (cursor : Cursor) → openedOf l ≡ Open cursor
     → (cursor .at ≡ 24) × (24 ≤ length l) × Covers l cursor (courseOf l cursor)
 whole-capture l cursor e =
-    let s = starts l cursor e in
-    (s .0, s .1, covers l cursor (omega arith))
+    let o = says l cursor e in
+    (o .at-first, o .long, covers l cursor (omega (arith, o .at-first, o .long)))

@@ -9,7 +9,7 @@ use borrow.Rule.Slice.PartMut.{midOf, putMid}
 use borrow.Author.Tests.{le-leb, lt-leb, lt-ltb, le-ltb}
 use Rattle.words.specs.Words.{stored}
 use Rattle.words.proofs.Words.{stored-by-part}
-use Rattle.capture.specs.Format.{headerBytes, Stamped, recordBytes}
+use Rattle.capture.specs.Format.{headerBytes, Content, recordBytes}
 use Rattle.capture.specs.Writing.{putOf, bytesPut, headerPut, recordPut}
 use Rattle.capture.specs.declared.Written.the-variants.{Refused, Next}
 
@@ -29,7 +29,7 @@ module _ (bytes : List ℕ) (at : ℕ) (room : List ℕ) where
   put-in-part end part h e f =
       rw (f, stored-by-part bytes at room end h e, e) (sym (have-room h))
 
-module _ (r : Stamped) (at : ℕ) (room : List ℕ) where
+module _ (r : Content) (at : ℕ) (room : List ℕ) where
   pub too-many : 2048 < length (r .bytes) → recordPut r at room ≡ putOf (Refused 8) room
   unfolding recordPut
   too-many h = rw (lt-ltb _ _ h)

@@ -5,7 +5,8 @@ use mathlib.Core.List.{List}
 use Prim.Native.Nat.{ℕ, _+_}
 use lib.Dec.{eqb, ltb, leb}
 use lib.ListN.{length}
-use Rattle.capture.specs.Format.{magic, magicIn, majorIn, minorIn, linkTypeIn, recordWord}
+use Rattle.capture.specs.Format.{headerSize, magic, major, minor, linkType, magicIn, majorIn, minorIn, linkTypeIn}
+use Rattle.capture.specs.Format.{recordSize, secondsIn, microsecondsIn, capturedIn, originalIn}
 use Rattle.capture.specs.declared.Cursor.{Cursor}
 use Rattle.capture.specs.declared.Opened.{Opened}
 use Rattle.capture.specs.declared.Opened.the-variants.{Refused, Open}
@@ -13,7 +14,7 @@ use Rattle.capture.specs.declared.Record.{Record}
 use Rattle.capture.specs.declared.Reading.{Reading}
 use Rattle.capture.specs.declared.Reading.the-variants.{End, Cut, Long, Whole}
 
--- ---- the header: 24 bytes
+-- ---- the header
 -- the byte order is that in which the magic stands: the most significant byte first, or else it has to be the least
 abbrev pub bigEndian : List ℕ → Bool
 bigEndian l = eqb (magicIn true l) magic
@@ -22,34 +23,34 @@ bigEndian l = eqb (magicIn true l) magic
 abbrev pub badWords : Bool → List ℕ → Bool
 badWords big l =
     not (eqb (magicIn big l) magic)
-    || ((not (eqb (majorIn big l) 2) || not (eqb (minorIn big l) 4))
-    || not (eqb (linkTypeIn big l) 1))
+    || ((not (eqb (majorIn big l) major) || not (eqb (minorIn big l) minor))
+    || not (eqb (linkTypeIn big l) linkType))
 
 -- 7: "capture header: short", or one of these
 unfoldable pub badHeader : List ℕ → Bool
-badHeader l = cond (ltb (length l) 24) true (badWords (bigEndian l) l)
+badHeader l = cond (ltb (length l) headerSize) true (badWords (bigEndian l) l)
 
 unfoldable pub openedOf : List ℕ → Opened
-openedOf l = cond (badHeader l) (Refused 7) (Open (record { at = 24; «big_endian» = bigEndian l }))
+openedOf l = cond (badHeader l) (Refused 7) (Open (record { at = headerSize; «big_endian» = bigEndian l }))
 
--- ---- a record: a header of 16 bytes, and the captured bytes
+-- ---- a record: its header, and the captured bytes
 -- what the header says that starts at a place: seconds, microseconds, captured and original length, and where the captured bytes stand
 abbrev pub headAt : Bool → ℕ → List ℕ → Record
 headAt big at l =
     record {
-      seconds = recordWord big at l 0;
-      microseconds = recordWord big at l 1;
-      captured = recordWord big at l 2;
-      original = recordWord big at l 3;
-      from = at + 16;
-      end = (at + 16) + recordWord big at l 2;
+      seconds = secondsIn big at l;
+      microseconds = microsecondsIn big at l;
+      captured = capturedIn big at l;
+      original = originalIn big at l;
+      from = at + recordSize;
+      end = (at + recordSize) + capturedIn big at l;
     }
 
 -- 8: "capture record cut off, or over 2,048 captured bytes". Nothing at all is no record that is cut off, but the capture's end.
 unfoldable pub nextOf : List ℕ → Cursor → Reading
 nextOf l cursor =
     cond (leb (length l) (cursor .at)) End
-    (cond (ltb (length l) (cursor .at + 16)) Cut
+    (cond (ltb (length l) (cursor .at + recordSize)) Cut
     (cond (ltb 2048 (head .captured)) Long
     (cond (ltb (length l) (head .end)) Cut
     (Whole head))))

@@ -5,18 +5,31 @@ use mathlib.Core.Bool.{Bool}
 use mathlib.Core.List.{List, [], _∷_, _++_}
 use Prim.Native.Nat.{ℕ}
 use lib.ListN.{length, getD}
-use Rattle.words.specs.Layouts.{Word, two, four, numbersAt, bytesFor}
+use Rattle.words.specs.Layouts.{Word, two, four, sizes, numbersAt, bytesFor}
 
 -- ---- the header of a capture: magic, major and minor version, zone, accuracy, snap length, link type
 abbrev pub headerWords : List Word
 headerWords = four ∷ (two ∷ (two ∷ (four ∷ (four ∷ (four ∷ (four ∷ []))))))
 
+abbrev pub headerSize : ℕ
+headerSize = sizes headerWords
+
 abbrev pub magic : ℕ
 magic = 0xa1b2c3d4
 
--- "pcap 2.4 .. link type 1", and "zone 0, accuracy 0 and snap length 2,048"
+-- "version 2.4", "link type 1"
+abbrev pub major : ℕ
+major = 2
+
+abbrev pub minor : ℕ
+minor = 4
+
+abbrev pub linkType : ℕ
+linkType = 1
+
+-- what is written: "zone 0, accuracy 0 and snap length 2,048"
 abbrev pub headerNumbers : List ℕ
-headerNumbers = magic ∷ (2 ∷ (4 ∷ (0 ∷ (0 ∷ (2048 ∷ (1 ∷ []))))))
+headerNumbers = magic ∷ (major ∷ (minor ∷ (0 ∷ (0 ∷ (2048 ∷ (linkType ∷ []))))))
 
 abbrev pub headerBytes : Bool → List ℕ
 headerBytes big = bytesFor big headerWords headerNumbers
@@ -50,32 +63,47 @@ linkTypeIn big l = headerWord big l 6
 abbrev pub recordWords : List Word
 recordWords = four ∷ (four ∷ (four ∷ (four ∷ [])))
 
+abbrev pub recordSize : ℕ
+recordSize = sizes recordWords
+
 -- what a record's header that starts at a place says, word by word
 abbrev pub recordWord : Bool → ℕ → List ℕ → ℕ → ℕ
 recordWord big at l k = getD (numbersAt big recordWords l at) k 0
 
--- ---- a record by what it tells, wherever it stands: "seconds, microseconds, original lengths and bytes"
-pub record Stamped : Type 0 where
+abbrev pub secondsIn : Bool → ℕ → List ℕ → ℕ
+secondsIn big at l = recordWord big at l 0
+
+abbrev pub microsecondsIn : Bool → ℕ → List ℕ → ℕ
+microsecondsIn big at l = recordWord big at l 1
+
+abbrev pub capturedIn : Bool → ℕ → List ℕ → ℕ
+capturedIn big at l = recordWord big at l 2
+
+abbrev pub originalIn : Bool → ℕ → List ℕ → ℕ
+originalIn big at l = recordWord big at l 3
+
+-- ---- a record's content, wherever it stands: its "seconds, microseconds, original lengths and bytes"
+pub record Content : Type 0 where
   pub seconds : ℕ
   pub microseconds : ℕ
   pub original : ℕ
   pub bytes : List ℕ
 
-abbrev pub stampedOf : ℕ → ℕ → ℕ → List ℕ → Stamped
-stampedOf seconds microseconds original bytes =
+abbrev pub contentOf : ℕ → ℕ → ℕ → List ℕ → Content
+contentOf seconds microseconds original bytes =
     record { seconds = seconds; microseconds = microseconds; original = original; bytes = bytes }
 
 -- its bytes: the header, and the captured bytes
-abbrev pub recordNumbers : Stamped → List ℕ
+abbrev pub recordNumbers : Content → List ℕ
 recordNumbers r = r .seconds ∷ (r .microseconds ∷ (length (r .bytes) ∷ (r .original ∷ [])))
 
-abbrev pub recordBytes : Bool → Stamped → List ℕ
+abbrev pub recordBytes : Bool → Content → List ℕ
 recordBytes big r = bytesFor big recordWords (recordNumbers r) ++ r .bytes
 
 -- records after one another, and a whole capture
-abbrev pub recordsBytes : Bool → List Stamped → List ℕ
+abbrev pub recordsBytes : Bool → List Content → List ℕ
 recordsBytes big [] = []
 recordsBytes big (r ∷ records) = recordBytes big r ++ recordsBytes big records
 
-abbrev pub captureBytes : Bool → List Stamped → List ℕ
+abbrev pub captureBytes : Bool → List Content → List ℕ
 captureBytes big records = headerBytes big ++ recordsBytes big records

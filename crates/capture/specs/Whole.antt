@@ -6,7 +6,7 @@ use mathlib.Core.Path.{_≡_}
 use Prim.Native.Nat.{ℕ, zero, suc, _+_, _-_, _≤_, _<_}
 use lib.ListN.{length, take, drop}
 use Rattle.words.specs.Layouts.{four, limit}
-use Rattle.capture.specs.Format.{Stamped, stampedOf}
+use Rattle.capture.specs.Format.{recordSize, Content, contentOf}
 use Rattle.capture.specs.Capture.{nextOf}
 use Rattle.capture.specs.declared.Cursor.{Cursor}
 use Rattle.capture.specs.declared.Record.{Record}
@@ -53,33 +53,33 @@ abbrev pub Each : (Record → Type 0) → List Record → Type 0
 Each P [] = Unit {0}
 Each P (r ∷ records) = P r × Each P records
 
--- the records lie side by side from one place to another: a header of 16 bytes, the captured bytes, at most 2,048, and the next record
+-- the records lie side by side from one place to another: a header, the captured bytes, at most 2,048, and the next record
 abbrev pub Tiles : ℕ → List Record → ℕ → Type 0
 Tiles a [] b = a ≡ b
-Tiles a (r ∷ records) b = (r .from ≡ a + 16) × (r .end ≡ r .from + r .captured) × (r .captured ≤ 2048) × Tiles (r .end) records b
+Tiles a (r ∷ records) b = (r .from ≡ a + recordSize) × (r .end ≡ r .from + r .captured) × (r .captured ≤ 2048) × Tiles (r .end) records b
 
 -- the bytes of the records, headers and captured bytes, one after another
 abbrev pub allBytes : List ℕ → List Record → List ℕ
 allBytes l [] = []
-allBytes l (r ∷ records) = take (16 + r .captured) (drop (r .from - 16) l) ++ allBytes l records
+allBytes l (r ∷ records) = take (recordSize + r .captured) (drop (r .from - recordSize) l) ++ allBytes l records
 
--- a record's captured bytes
+-- a record's captured bytes: from a place up to another
 abbrev pub bytesOf : List ℕ → Record → List ℕ
-bytesOf l r = take (r .captured) (drop (r .from) l)
+bytesOf l r = take (r .end - r .from) (drop (r .from) l)
 
--- ---- what is told
--- what a record tells, and all that a capture tells from a cursor on
-abbrev pub stampedIn : List ℕ → Record → Stamped
-stampedIn l r = stampedOf (r .seconds) (r .microseconds) (r .original) (bytesOf l r)
+-- ---- contents
+-- a record's content, and those of all records from a cursor on
+abbrev pub contentIn : List ℕ → Record → Content
+contentIn l r = contentOf (r .seconds) (r .microseconds) (r .original) (bytesOf l r)
 
-abbrev pub recordsIn : List ℕ → Cursor → List Stamped
-recordsIn l cursor = map (stampedIn l) (courseOf l cursor .records)
+abbrev pub recordsIn : List ℕ → Cursor → List Content
+recordsIn l cursor = map (contentIn l) (courseOf l cursor .records)
 
 -- what can be written: times and an original length of 32 bits, and at most 2,048 bytes
-abbrev pub Writable : Stamped → Type 0
+abbrev pub Writable : Content → Type 0
 Writable r = (r .seconds < limit four) × (r .microseconds < limit four) × (r .original < limit four) × (length (r .bytes) ≤ 2048)
 
-abbrev pub AllWritable : List Stamped → Type 0
+abbrev pub AllWritable : List Content → Type 0
 AllWritable [] = Unit {0}
 AllWritable (r ∷ records) = Writable r × AllWritable records
 

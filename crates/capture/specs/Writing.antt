@@ -6,7 +6,7 @@ use Prim.Native.Nat.{ℕ, _+_}
 use lib.Dec.{ltb, leb}
 use lib.ListN.{length}
 use Rattle.words.specs.Words.{stored}
-use Rattle.capture.specs.Format.{headerBytes, Stamped, recordBytes}
+use Rattle.capture.specs.Format.{headerBytes, Content, recordBytes}
 use Rattle.capture.specs.declared.Written.{Written}
 use Rattle.capture.specs.declared.Written.the-variants.{Refused, Next}
 
@@ -28,19 +28,19 @@ unfoldable pub headerPut : ℕ → List ℕ → Put
 headerPut at room = bytesPut (headerBytes false) at room
 
 -- "it comes after 8, which the writer gives above 2,048 bytes"
-unfoldable pub recordPut : Stamped → ℕ → List ℕ → Put
+unfoldable pub recordPut : Content → ℕ → List ℕ → Put
 recordPut r at room = cond (ltb 2048 (length (r .bytes))) (putOf (Refused 8) room) (bytesPut (recordBytes false r) at room)
 
 -- ---- a whole capture, call by call: the header, and then each record where the call before it answered; nothing after a refusal
-abbrev pub nextPut : Stamped → Written → List ℕ → Put
+abbrev pub nextPut : Content → Written → List ℕ → Put
 nextPut r (Refused number) room = putOf (Refused number) room
 nextPut r (Next at) room = recordPut r at room
 
-abbrev pub recordsPut : List Stamped → Put → Put
+abbrev pub recordsPut : List Content → Put → Put
 recordsPut [] before = before
 recordsPut (r ∷ records) before = recordsPut records (nextPut r (before .answer) (before .room))
 
-abbrev pub capturePut : List Stamped → ℕ → List ℕ → Put
+abbrev pub capturePut : List Content → ℕ → List ℕ → Put
 capturePut records at room = recordsPut records (headerPut at room)
 
 -- the paper's number for each case of the answer, and 0 for what is not refused

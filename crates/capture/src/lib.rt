@@ -6,7 +6,7 @@ ghost use lib.ListN.{length};
 ghost use Rattle.capture.specs.Capture.{badWords, openedOf, headAt, nextOf};
 ghost use mathlib.Core.Bool.{false};
 ghost use Rattle.words.specs.Words.{stored};
-ghost use Rattle.capture.specs.Format.{headerBytes, stampedOf, recordBytes};
+ghost use Rattle.capture.specs.Format.{headerBytes, contentOf, recordBytes};
 ghost use Rattle.capture.specs.Writing.{putOf, headerPut, recordPut};
 
 const MAGIC: u32 = 0xa1b2c3d4;
@@ -16,6 +16,8 @@ const HEADER: usize = 24;
 const RECORD_HEADER: usize = 16;
 
 const MOST_CAPTURED: usize = 2048;
+
+const SNAP_LENGTH: u32 = 2048;
 
 // Where the next record starts among the bytes at hand, and the capture's byte order.
 #[repr(C)]
@@ -133,7 +135,7 @@ fn fill_header(room: &mut [u8])
     words::store_two(room, 6, 4, false);
     words::store_four(room, 8, 0, false);
     words::store_four(room, 12, 0, false);
-    words::store_four(room, 16, 2048, false);
+    words::store_four(room, 16, SNAP_LENGTH, false);
     words::store_four(room, 20, 1, false);
 }
 
@@ -141,13 +143,13 @@ fn fill_header(room: &mut [u8])
 fn fill_record(room: &mut [u8], seconds: u32, microseconds: u32, original: u32, source: &[u8])
     requires { ⌜ (length (now source) ≤ 2048) × (length (now room) ≡ 16 + length (now source)) ⌝ }
     ensures { λ _. ⌜ now (room .exit)
-        ≡ stored (recordBytes false (stampedOf seconds microseconds original (now (source .entry)))) 0 (now (room .entry)) ⌝ }
+        ≡ stored (recordBytes false (contentOf seconds microseconds original (now (source .entry)))) 0 (now (room .entry)) ⌝ }
 {
     words::store_four(room, 0, seconds, false);
     words::store_four(room, 4, microseconds, false);
     words::store_four(room, 8, source.len() as u32, false);
     words::store_four(room, 12, original, false);
-    words::store(room, 16, source);
+    words::store(room, RECORD_HEADER, source);
 }
 
 // Writes a capture's header into the room at a place. Answers the place of the first record, or refusal 9 where there is no room for it.
@@ -173,7 +175,7 @@ pub fn put_record(
     source: &[u8],
 ) -> Written
     ensures { λ r. ⌜ putOf r (now (room .exit))
-        ≡ recordPut (stampedOf seconds microseconds original (now (source .entry))) at (now (room .entry)) ⌝ }
+        ≡ recordPut (contentOf seconds microseconds original (now (source .entry))) at (now (room .entry)) ⌝ }
 {
     if MOST_CAPTURED < source.len() {
         return Written::Refused(8);

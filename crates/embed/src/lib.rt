@@ -7,7 +7,7 @@ ghost use Rattle.settings.specs.Settings.{factorySettings};
 ghost use Rattle.permute.specs.Permutation.{E, D};
 ghost use Rattle.sides.specs.Lists.{winningOf};
 ghost use Rattle.capture.specs.Capture.{openedOf, nextOf};
-ghost use Rattle.capture.specs.Format.{stampedOf};
+ghost use Rattle.capture.specs.Format.{contentOf};
 ghost use Rattle.capture.specs.Writing.{headerPut, recordPut};
 ghost use Rattle.gateway.specs.Calls.{afterOf, stateOf, refusalIn, started, passed, judged};
 ghost use Rattle.frames.specs.Frames.{frameJudged};
@@ -190,7 +190,7 @@ pub extern "C" fn spritgrommet_put_record(
     frame: &[u8],
 ) -> PlainWritten
     ensures { λ r. ⌜ plainPutOf r (now (room .exit))
-        ≡ plainPut (recordPut (stampedOf seconds microseconds original (now (frame .entry))) at (now (room .entry))) ⌝ }
+        ≡ plainPut (recordPut (contentOf seconds microseconds original (now (frame .entry))) at (now (room .entry))) ⌝ }
 {
     let written = capture::put_record(room, at, seconds, microseconds, original, frame);
     plain::of_written(written)

@@ -1,4 +1,4 @@
-// The lines that end what the printing program prints, put into lent room from a place on.
+// The lines in which a program that replays a capture says how it ended, put into lent room from a place on.
 ghost use mathlib.Core.Path.{_≡_};
 ghost use Rattle.lines.specs.Room.{roomOf, put};
 ghost use Rattle.endings.specs.Endings.{oneMore, ending, headerRefused};

@@ -1,4 +1,4 @@
--- What a record makes of how far printing has come, and what turns after one another make of it.
+-- What a record makes of how far a program has come, and what turns after one another make of it.
 -- Assumes nothing.
 use mathlib.Core.Bool.{Bool, true, false, cond}
 use mathlib.Core.Path.{_≡_, refl}
@@ -14,16 +14,17 @@ use Rattle.replay.specs.Replay.{stepped}
 use Rattle.endings.specs.Endings.{oneMore}
 use Rattle.lines.specs.Room.{Room, roomOf}
 use Rattle.capture.specs.declared.Record.{Record}
+use Rattle.capture.specs.Whole.{contentIn}
 use Rattle.outputs.specs.declared.Output.{Output}
 use Rattle.outputs.specs.Outputs.{toldPut}
 use Rattle.feeding.specs.declared.Progress.{Progress}
-use Rattle.feeding.specs.Feeding.{isRefused, Page, pageOf, stampOf, told, Replayed, replayedOf, toldBy, turned, canGoOn, fed}
+use Rattle.feeding.specs.Feeding.{isRefused, Page, pageOf, told, Replayed, replayedOf, toldBy, turned, canGoOn, fed}
 
 -- a whole record
 pub told-as : (output : Output) (bytes : List ℕ) (r : Record) (p : Progress) (room : List ℕ) (number refusals : ℕ) (after : Room) (answer : Answer)
     → number ≡ oneMore (p .records)
     → refusals ≡ cond (isRefused answer) (oneMore (p .refusals)) (p .refusals)
-    → after ≡ toldPut output number (stampOf bytes r) answer (roomOf (p .put) room)
+    → after ≡ toldPut output number (contentIn bytes r) answer (roomOf (p .put) room)
     → pageOf
     (record {
       at = r .end;

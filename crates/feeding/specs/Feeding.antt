@@ -11,13 +11,13 @@ use Rattle.rulings.specs.declared.answers.Answer.the-variants.{Refused, NotOurs
 use Rattle.gateway.specs.Calls.{State, After}
 use Rattle.lines.specs.Room.{Room, roomOf}
 use Rattle.capture.specs.declared.Record.{Record}
-use Rattle.capture.specs.Format.{Stamped, stampedOf}
+use Rattle.capture.specs.Whole.{contentIn}
 use Rattle.outputs.specs.declared.Output.{Output}
 use Rattle.outputs.specs.Outputs.{toldPut}
 use Rattle.endings.specs.Endings.{oneMore}
 use Rattle.replay.specs.declared.Step.{Step}
 use Rattle.replay.specs.declared.Step.the-variants as step
-use Rattle.replay.specs.Replay.{frameIn, stepped}
+use Rattle.replay.specs.Replay.{stepped}
 use Rattle.feeding.specs.declared.Progress.{Progress}
 
 abbrev pub isRefused : Answer → Bool
@@ -34,14 +34,10 @@ abbrev pub pageOf : Progress → List ℕ → Page
 pageOf progress room = record { progress = progress; room = room }
 
 -- ---- what one record makes of it
--- what a whole record tells
-abbrev pub stampOf : List ℕ → Record → Stamped
-stampOf bytes r = stampedOf (r .seconds) (r .microseconds) (r .original) (frameIn bytes r)
-
--- what is put out for it, with the number of the next record
+-- what is put out for a whole record, with the number of the next record
 abbrev pub roomTold : Output → List ℕ → Record → Answer → Page → Room
 roomTold output bytes r answer before =
-    toldPut output (oneMore (before .progress .records)) (stampOf bytes r) answer (roomOf (before .progress .put) (before .room))
+    toldPut output (oneMore (before .progress .records)) (contentIn bytes r) answer (roomOf (before .progress .put) (before .room))
 
 -- no whole record stands at the cursor
 abbrev pub waiting : Progress → Progress

@@ -1,4 +1,4 @@
--- A line for which there is room is put whole, and how long a line may be: printing leaves room for any before it puts one.
+-- A line for which there is room is put whole, and how long a line may be: who puts one can leave room for any.
 -- Assumes nothing.
 use mathlib.Core.Bool.{Bool, true, false, cond}
 use mathlib.Core.List.{List, [], _∷_, _++_}

@@ -1,30 +1,24 @@
 -- Where there is room for it, what is put out for a record is put whole: just the bytes of the definition, and all others stay.
 -- Assumes nothing.
 use mathlib.Core.Bool.{Bool, true, false, cond}
-use mathlib.Core.List.{List, [], _++_, append-assoc}
+use mathlib.Core.List.{List, [], append-assoc}
 use mathlib.Core.Path.{_≡_, refl, sym, ap, _∙_}
-use Prim.Native.Nat.{ℕ, _+_, _≤_}
+use Prim.Native.Nat.{ℕ, _+_, _^_, _≤_, _<_}
 use native.Mathlib.Omega.{arith}
-use lib.ListN.{length, take, drop, take-append-drop}
+use lib.ListN.{length, take, drop}
 use Rattle.words.specs.Words.{stored}
-use Rattle.words.proofs.Words.{all-stored}
+use Rattle.words.proofs.Words.{all-stored, nothing-stored}
 use Rattle.rulings.specs.declared.answers.Answer.{Answer}
 use Rattle.rulings.specs.Answers.{forwardedTold}
 use Rattle.lines.specs.Lines.{line}
 use Rattle.lines.specs.Room.{Room, roomOf, put}
-use Rattle.lines.proofs.Whole.{whole}
-use Rattle.capture.specs.Format.{headerBytes, Stamped, recordBytes}
+use Rattle.lines.proofs.Whole.{whole, InRange, line-short}
+use Rattle.capture.specs.Format.{headerBytes, Content, recordBytes}
 use Rattle.capture.proofs.Writings.{have-room, few-enough, the-header}
 use Rattle.outputs.specs.declared.Output.{Output}
 use Rattle.outputs.specs.declared.Output.the-variants.{Lines, Forwarded}
 use Rattle.outputs.specs.Outputs.{toldOf, openingOf, roomAfter, forwardedPut, toldPut, openingPut}
 use Rattle.outputs.proofs.Cases.{goes-through, is-held-back}
-
--- nothing is stored
-pub none : (at : ℕ) (room : List ℕ) → at ≤ length room → stored [] at room ≡ room
-none at room h =
-    let end : at + 0 ≡ at = omega arith in
-    all-stored [] at room (omega arith) ∙ ap (λ (k : ℕ). take at room ++ drop k room) end ∙ take-append-drop at room
 
 abbrev pub Stored : List ℕ → ℕ → List ℕ → Room
 Stored text at room = roomOf (at + length text) (stored text at room)
@@ -35,7 +29,7 @@ module _ (at : ℕ) (room : List ℕ) where
       whole text at room h
       ∙ ap (roomOf (at + length text)) (append-assoc (take at room) text (drop (at + length text) room) ∙ sym (all-stored text at room h))
 
-  forwarded-whole : (r : Stamped) (answer : Answer) → length (r .bytes) ≤ 2048 → (t : Bool) → forwardedTold answer ≡ t
+  forwarded-whole : (r : Content) (answer : Answer) → length (r .bytes) ≤ 2048 → (t : Bool) → forwardedTold answer ≡ t
       → at + length (cond t (recordBytes false r) []) ≤ length room
       → forwardedPut r answer (roomOf at room) ≡ Stored (cond t (recordBytes false r) []) at room
   forwarded-whole r answer few true e h =
@@ -43,10 +37,10 @@ module _ (at : ℕ) (room : List ℕ) where
       ∙ ap (roomAfter at) (few-enough r at room few ∙ have-room (recordBytes false r) at room h)
   forwarded-whole r answer few false e h =
       let end : at + 0 ≡ at = omega arith in
-      is-held-back r answer (roomOf at room) e ∙ (λ i. roomOf (sym end i) (sym (none at room (omega (arith, h))) i))
+      is-held-back r answer (roomOf at room) e ∙ (λ i. roomOf (sym end i) (sym (nothing-stored at room (omega (arith, h))) i))
 
   -- a whole record has at most 2,048 captured bytes
-  pub told-whole : (output : Output) (number : ℕ) (r : Stamped) (answer : Answer) → length (r .bytes) ≤ 2048
+  pub told-whole : (output : Output) (number : ℕ) (r : Content) (answer : Answer) → length (r .bytes) ≤ 2048
       → at + length (toldOf output number r answer) ≤ length room
       → toldPut output number r answer (roomOf at room) ≡ Stored (toldOf output number r answer) at room
   told-whole Lines number r answer few h = line-whole (line number answer) h
@@ -56,5 +50,21 @@ module _ (at : ℕ) (room : List ℕ) where
       → openingPut output (roomOf at room) ≡ Stored (openingOf output) at room
   opening-whole Lines h =
       let end : at + 0 ≡ at = omega arith in
-      (λ i. roomOf (sym end i) (sym (none at room (omega (arith, h))) i))
+      (λ i. roomOf (sym end i) (sym (nothing-stored at room (omega (arith, h))) i))
   opening-whole Forwarded h = ap (roomAfter at) (the-header at room ∙ have-room (headerBytes false) at room h)
+
+-- ---- how long it is
+-- what the types of an answer's parts say of them, where they are printed
+abbrev pub Sized : Output → Answer → Type 0
+Sized Lines answer = InRange answer
+Sized Forwarded answer = Unit {0}
+
+-- any line and any record has place in 2,064 bytes
+pub told-short : (output : Output) (number : ℕ) (r : Content) (answer : Answer) → number < 2 ^ 64 → Sized output answer → length (r .bytes) ≤ 2048
+    → length (toldOf output number r answer) ≤ 2064
+told-short Lines number r answer h range few = omega (arith, line-short number answer h range)
+told-short Forwarded number r answer h range few = go (forwardedTold answer)
+  where
+    go : (t : Bool) → length (cond t (recordBytes false r) []) ≤ 2064
+    go true = omega arith
+    go false = omega arith

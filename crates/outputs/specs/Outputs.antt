@@ -10,14 +10,14 @@ use Rattle.lines.specs.Lines.{line}
 use Rattle.lines.specs.Room.{Room, roomOf, put}
 use Rattle.capture.specs.declared.Written.{Written}
 use Rattle.capture.specs.declared.Written.the-variants.{Refused, Next}
-use Rattle.capture.specs.Format.{headerBytes, Stamped, recordBytes}
+use Rattle.capture.specs.Format.{headerBytes, Content, recordBytes}
 use Rattle.capture.specs.Writing.{Put, headerPut, recordPut}
 use Rattle.outputs.specs.declared.Output.{Output}
 use Rattle.outputs.specs.declared.Output.the-variants.{Lines, Forwarded}
 
 -- ---- the bytes
 -- for a whole record, by its number, what it tells and what was answered
-abbrev pub toldOf : Output → ℕ → Stamped → Answer → List ℕ
+abbrev pub toldOf : Output → ℕ → Content → Answer → List ℕ
 toldOf Lines number r answer = line number answer
 toldOf Forwarded number r answer = cond (forwardedTold answer) (recordBytes false r) []
 
@@ -35,10 +35,10 @@ placeAfter (Next next) at = next
 abbrev pub roomAfter : ℕ → Put → Room
 roomAfter at after = roomOf (placeAfter (after .answer) at) (after .room)
 
-unfoldable pub forwardedPut : Stamped → Answer → Room → Room
+unfoldable pub forwardedPut : Content → Answer → Room → Room
 forwardedPut r answer room = cond (forwardedTold answer) (roomAfter (room .end) (recordPut r (room .end) (room .bytes))) room
 
-abbrev pub toldPut : Output → ℕ → Stamped → Answer → Room → Room
+abbrev pub toldPut : Output → ℕ → Content → Answer → Room → Room
 toldPut Lines number r answer room = put (line number answer) room
 toldPut Forwarded number r answer room = forwardedPut r answer room
 

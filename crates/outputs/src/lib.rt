@@ -2,7 +2,7 @@
 ghost use mathlib.Core.Path.{_≡_};
 ghost use Rattle.rulings.specs.Answers.{forwardedTold};
 ghost use Rattle.lines.specs.Room.{roomOf};
-ghost use Rattle.capture.specs.Format.{stampedOf};
+ghost use Rattle.capture.specs.Format.{contentOf};
 ghost use Rattle.outputs.specs.Outputs.{placeAfter, forwardedPut, toldPut, openingPut};
 use capture::Record;
 use capture::Written;
@@ -42,7 +42,7 @@ fn place_after(written: Written, at: usize) -> usize
 // Puts a record that went through.
 fn put_forwarded(room: &mut [u8], at: usize, read: Record, frame: &[u8], answer: Answer) -> usize
     ensures { λ r. ⌜ roomOf r (now (room .exit))
-        ≡ forwardedPut (stampedOf (read .seconds) (read .microseconds) (read .original) (now (frame .entry))) answer (roomOf at (now (room .entry))) ⌝ }
+        ≡ forwardedPut (contentOf (read .seconds) (read .microseconds) (read .original) (now (frame .entry))) answer (roomOf at (now (room .entry))) ⌝ }
 {
     if is_forwarded(answer) {
         let written = capture::put_record(
@@ -70,7 +70,7 @@ pub fn put_told(
     answer: Answer,
 ) -> usize
     ensures { λ r. ⌜ roomOf r (now (room .exit))
-        ≡ toldPut output number (stampedOf (read .seconds) (read .microseconds) (read .original) (now (frame .entry))) answer
+        ≡ toldPut output number (contentOf (read .seconds) (read .microseconds) (read .original) (now (frame .entry))) answer
         (roomOf at (now (room .entry))) ⌝ }
 {
     match output {

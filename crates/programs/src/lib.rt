@@ -8,7 +8,7 @@ use libc::STDOUT_FILENO;
 use outputs::Output;
 
 // How many bytes of input are held, how far the program has come, whether more bytes are wanted before it comes further, whether to go on
-// (input has not ended, no record was too long), and whether all that was put out so far was written.
+// (input has not ended, no record was too long, nothing is lost), and whether all that was put out so far was written.
 struct Stage {
     held: usize,
     progress: Progress,
@@ -43,9 +43,9 @@ fn write(to: i32, room: &[u8], put: usize) -> bool {
     io::write_all(to, &room[..end])
 }
 
-// Where a program says how the capture ended. The printing program says it in its last lines; where standard output is a capture itself it
-// goes beside it.
-fn last_words(output: Output) -> i32 {
+// Where the lines go that say how the capture ended. They are the printing program's last lines; where standard output is a capture itself
+// they go beside it.
+fn ending_goes_to(output: Output) -> i32 {
     match output {
         Output::Lines => STDOUT_FILENO,
         Output::Forwarded => STDERR_FILENO,
@@ -141,7 +141,7 @@ fn end(output: Output, room: &mut [u8], stage: Stage) {
     if stage.is_written {
         let is_refused = progress.is_over | (0 < stage.held);
         let put = endings::put_ending(room, 0, progress.records, progress.refusals, is_refused);
-        write(last_words(output), room, put);
+        write(ending_goes_to(output), room, put);
     }
 }
 
@@ -169,7 +169,8 @@ fn replay_records(output: Output, big_endian: bool, room: &mut [u8]) {
 }
 
 // Replays the capture on standard input, and puts out what a program is to put out. What it reads and writes no contract can say; it
-// answers nothing, and ends where standard input ends, where a record is refused by 8, or where nothing more can be written.
+// answers nothing, and ends where standard input ends, where the capture is refused by 7 or a record by 8, or where something cannot be
+// written: then it ends without a word, so that the last line is missing.
 pub fn replay(output: Output) {
     let mut room = io::large_buffer();
     let mut header = [0u8; 24];
@@ -177,7 +178,7 @@ pub fn replay(output: Output) {
     match capture::open(&header[..got]) {
         Opened::Refused(number) => {
             let put = endings::put_refused_header(&mut room, 0, number);
-            write(last_words(output), &room, put);
+            write(ending_goes_to(output), &room, put);
         }
         Opened::Open(cursor) => replay_records(output, cursor.big_endian, &mut room),
     }

@@ -11,6 +11,7 @@ use Rattle.capture.specs.declared.Record.{Record}
 use Rattle.capture.specs.declared.Reading.{Reading}
 use Rattle.capture.specs.declared.Reading.the-variants as reading
 use Rattle.capture.specs.Capture.{nextOf}
+use Rattle.capture.specs.Whole.{bytesOf}
 use Rattle.rulings.specs.declared.answers.Answer.{Answer}
 use Rattle.rulings.specs.Rules.{document01}
 use Rattle.gateway.specs.declared.Reply.{Reply}
@@ -18,7 +19,7 @@ use Rattle.gateway.specs.Calls.{State, After, started}
 use Rattle.frames.specs.Frames.{frameJudged}
 use Rattle.replay.specs.declared.Step.{Step}
 use Rattle.replay.specs.declared.Step.the-variants as step
-use Rattle.replay.specs.Replay.{cellList, plantList, startedFirst, frameIn, recordJudged, judgedStep, byReading, stepped}
+use Rattle.replay.specs.Replay.{cellList, plantList, startedFirst, recordJudged, judgedStep, byReading, stepped}
 
 module _ (time : ℕ) (before : State) where
   pub first : (settings : Settings) (after : After Reply) → settings ≡ factorySettings → after ≡ started settings time before
@@ -33,7 +34,7 @@ module _ (time : ℕ) (before : State) where
 pub judged-as : (isFirst : Bool) (bytes : List ℕ) (r : Record) (before middle : State) (settings : Settings) (after : After Answer)
     → settings ≡ factorySettings
     → middle ≡ startedFirst isFirst (r .seconds) before
-    → after ≡ frameJudged document01 settings cellList plantList (r .seconds) (frameIn bytes r) middle
+    → after ≡ frameJudged document01 settings cellList plantList (r .seconds) (bytesOf bytes r) middle
     → after ≡ recordJudged isFirst bytes r before
 unfolding recordJudged
 judged-as isFirst bytes r before middle settings after e f g = rw (g, e, f)

@@ -2,14 +2,14 @@
 -- Assumes nothing.
 use mathlib.Core.Bool.{Bool, cond}
 use mathlib.Core.List.{List, [], _∷_}
-use Prim.Native.Nat.{ℕ, _-_}
-use lib.ListN.{take, drop}
+use Prim.Native.Nat.{ℕ}
 use Rattle.settings.specs.Settings.{factorySettings}
 use Rattle.capture.specs.declared.Cursor.{Cursor}
 use Rattle.capture.specs.declared.Record.{Record}
 use Rattle.capture.specs.declared.Reading.{Reading}
 use Rattle.capture.specs.declared.Reading.the-variants as reading
 use Rattle.capture.specs.Capture.{nextOf}
+use Rattle.capture.specs.Whole.{bytesOf}
 use Rattle.rulings.specs.declared.answers.Answer.{Answer}
 use Rattle.rulings.specs.Answers.{refusalTold}
 use Rattle.rulings.specs.Rules.{document01}
@@ -29,14 +29,10 @@ plantList = 192 ∷ (168 ∷ (0 ∷ (0 ∷ (16 ∷ []))))
 unfoldable pub startedFirst : Bool → ℕ → State → State
 startedFirst first time before = cond first (started factorySettings time before .state) before
 
--- the bytes that were captured of a record
-abbrev pub frameIn : List ℕ → Record → List ℕ
-frameIn bytes r = take (r .end - r .from) (drop (r .from) bytes)
-
 -- a whole record's frame, judged at the record's second
 unfoldable pub recordJudged : Bool → List ℕ → Record → State → After Answer
 recordJudged first bytes r before =
-    frameJudged document01 factorySettings cellList plantList (r .seconds) (frameIn bytes r) (startedFirst first (r .seconds) before)
+    frameJudged document01 factorySettings cellList plantList (r .seconds) (bytesOf bytes r) (startedFirst first (r .seconds) before)
 
 -- a record that is judged, with what was answered
 abbrev pub judgedStep : Record → After Answer → After Step

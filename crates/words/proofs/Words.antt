@@ -117,6 +117,11 @@ stored-then first second at room h =
         ∙ drop-drop (length second) middle room
         ∙ ap (λ (k : ℕ). drop k room) end
 
+pub nothing-stored : (at : ℕ) (room : List ℕ) → at ≤ length room → stored [] at room ≡ room
+nothing-stored at room h =
+    let end : at + 0 ≡ at = omega arith in
+    all-stored [] at room (omega arith) ∙ ap (λ (k : ℕ). take at room ++ drop k room) end ∙ take-append-drop at room
+
 -- ---- several, one behind the other
 abbrev pub inTurn : List (List ℕ) → ℕ → List ℕ → List ℕ
 inTurn [] at room = room
@@ -128,9 +133,7 @@ together (bytes ∷ others) = bytes ++ together others
 
 pub stored-in-turn : (all : List (List ℕ)) (at : ℕ) (room : List ℕ) → at + length (together all) ≤ length room
     → inTurn all at room ≡ stored (together all) at room
-stored-in-turn [] at room h =
-    let end : at + 0 ≡ at = omega arith in
-    sym (all-stored [] at room h ∙ ap (λ (k : ℕ). take at room ++ drop k room) end ∙ take-append-drop at room)
+stored-in-turn [] at room h = sym (nothing-stored at room (omega arith))
 stored-in-turn (bytes ∷ others) at room h =
     stored-in-turn others (at + length bytes) (stored bytes at room)
     (omega (arith, h, length-append bytes (together others), stored-length bytes at room))

@@ -141,7 +141,7 @@ fn captures() {
 #[test]
 fn written_captures() {
     let frames = [vec![], vec![7; 60], (0..2048).map(|at| at as u8).collect::<Vec<u8>>()];
-    let mut room = [0xEE; 24 + 3 * 16 + 60 + 2048];
+    let mut room = [0xEE; 24 + 3 * 16 + 60 + 2048 + 15];
     let mut expected = second::capture::HEADER.to_vec();
     let mut writer = CaptureWriter::start(&mut room).expect("room for the header");
     for (number, frame) in (1..).zip(&frames) {
@@ -153,9 +153,13 @@ fn written_captures() {
         expected.extend(record.written().expect("no more than 2,048 bytes"));
         assert_eq!(writer.written(), expected);
     }
-    let empty = Record { seconds: 0, microseconds: 0, original: 0, frame: &[] };
-    assert_eq!(writer.put(&empty), Err(Refusal(9)));
+    // 15 bytes are left, one too few for a record's header: neither refusal touches them.
+    for (frame, number) in [(&[0; 2049][..], 8), (&[], 9)] {
+        let refused = Record { seconds: 0, microseconds: 0, original: 0, frame };
+        assert_eq!(writer.put(&refused), Err(Refusal(number)));
+    }
     assert_eq!(writer.written(), expected);
+    expected.extend([0xEE; 15]);
     assert_eq!(room[..], expected);
     let mut small = [0xEE; 23];
     assert_eq!(CaptureWriter::start(&mut small).err(), Some(Refusal(9)));

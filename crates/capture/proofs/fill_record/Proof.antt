@@ -10,7 +10,7 @@ use denote.Ref.{now}
 use Rattle.words.specs.Words.{fourBytes, stored}
 use Rattle.words.specs.Layouts.{bytesFor}
 use Rattle.words.proofs.Words.{stored-in-turn}
-use Rattle.capture.specs.Format.{recordWords, recordNumbers, stampedOf}
+use Rattle.capture.specs.Format.{recordWords, recordNumbers, contentOf}
 use borrow.Author.Needs.{needs}
 use Rattle.capture.proofs.fill_record.Statement.{statement}
 use Rattle.capture.proofs.fill_record.Tie as tie
@@ -49,7 +49,7 @@ returns c =
     ∷ (fourBytes false (s .args .microseconds)
     ∷ (fourBytes false (length (now (s .args .source))) ∷ (fourBytes false (s .args .original) ∷ (now (s .args .source) ∷ [])))))
     0 (now (s .args .room)) (omega (arith, s .pre .1, length-append (now (s .args .source)) []))
-    ∙ ap (λ (b : List ℕ). stored (bytesFor false recordWords (recordNumbers (stampedOf (s .args .seconds) (s .args .microseconds) (s .args .original) (now (s .args .source)))) ++ b) 0 (now (s .args .room)))
+    ∙ ap (λ (b : List ℕ). stored (bytesFor false recordWords (recordNumbers (contentOf (s .args .seconds) (s .args .microseconds) (s .args .original) (now (s .args .source)))) ++ b) 0 (now (s .args .room)))
     (append-nil (now (s .args .source)))
 
 pub fill-record-spec : {M : Type 1} → statement M

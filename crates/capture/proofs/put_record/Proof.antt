@@ -8,14 +8,14 @@ use lib.ListN.{length}
 use denote.Ref.{now}
 use borrow.Author.Tests.{leb-true, leb-false}
 use Rattle.capture.proofs.Writings.{no-room, put-in-part, too-many, few-enough}
-use Rattle.capture.specs.Format.{Stamped, stampedOf, recordBytes}
+use Rattle.capture.specs.Format.{Content, contentOf, recordBytes}
 use borrow.Author.Needs.{needs}
 use Rattle.capture.proofs.put_record.Statement.{statement}
 use Rattle.capture.proofs.put_record.Tie as tie
 
 -- the record that is asked for
-abbrev asked : tie.Start → Stamped
-asked s = stampedOf (s .args .seconds) (s .args .microseconds) (s .args .original) (now (s .args .source))
+abbrev asked : tie.Start → Content
+asked s = contentOf (s .args .seconds) (s .args .microseconds) (s .args .original) (now (s .args .source))
 
 returns : tie.Need-returns
 returns c = sym (too-many (asked (c .before .before .before)) _ _ (c .if1 .taken))

@@ -3,7 +3,7 @@
 use mathlib.Core.Path.{sym, _∙_, ap}
 use Prim.Native.Nat.{ℕ}
 use denote.Ref.{now}
-use Rattle.capture.specs.Format.{Stamped, stampedOf}
+use Rattle.capture.specs.Format.{Content, contentOf}
 use Rattle.lines.specs.Room.{roomOf}
 use Rattle.outputs.proofs.Cases.{goes-through, is-held-back}
 use Rattle.outputs.specs.Outputs.{roomAfter}
@@ -12,8 +12,8 @@ use Rattle.outputs.proofs.put_forwarded.Statement.{statement}
 use Rattle.outputs.proofs.put_forwarded.Tie as tie
 
 -- the record that is asked for
-abbrev asked : tie.Start → Stamped
-asked s = stampedOf (s .args .read .seconds) (s .args .read .microseconds) (s .args .read .original) (now (s .args .frame))
+abbrev asked : tie.Start → Content
+asked s = contentOf (s .args .read .seconds) (s .args .read .microseconds) (s .args .read .original) (now (s .args .frame))
 
 is-forwarded-requires : tie.Need-is-forwarded-requires
 is-forwarded-requires c κs = search needs
