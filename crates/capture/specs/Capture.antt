@@ -5,7 +5,7 @@ use mathlib.Core.List.{List}
 use Prim.Native.Nat.{ℕ, _+_}
 use lib.Dec.{eqb, ltb, leb}
 use lib.ListN.{length}
-use Rattle.capture.specs.Format.{headerSize, magic, major, minor, linkType, magicIn, majorIn, minorIn, linkTypeIn}
+use Rattle.capture.specs.Format.{headerSize, mostCaptured, magic, major, minor, linkType, magicIn, majorIn, minorIn, linkTypeIn}
 use Rattle.capture.specs.Format.{recordSize, secondsIn, microsecondsIn, capturedIn, originalIn}
 use Rattle.capture.specs.declared.Cursor.{Cursor}
 use Rattle.capture.specs.declared.Opened.{Opened}
@@ -51,7 +51,7 @@ unfoldable pub nextOf : List ℕ → Cursor → Reading
 nextOf l cursor =
     cond (leb (length l) (cursor .at)) End
     (cond (ltb (length l) (cursor .at + recordSize)) Cut
-    (cond (ltb 2048 (head .captured)) Long
+    (cond (ltb mostCaptured (head .captured)) Long
     (cond (ltb (length l) (head .end)) Cut
     (Whole head))))
   where

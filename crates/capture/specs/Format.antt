@@ -27,9 +27,13 @@ minor = 4
 abbrev pub linkType : ℕ
 linkType = 1
 
+-- "over 2,048 captured bytes" are too many to read, and to write; it is the snap length that is written, too
+abbrev pub mostCaptured : ℕ
+mostCaptured = 2048
+
 -- what is written: "zone 0, accuracy 0 and snap length 2,048"
 abbrev pub headerNumbers : List ℕ
-headerNumbers = magic ∷ (major ∷ (minor ∷ (0 ∷ (0 ∷ (2048 ∷ (linkType ∷ []))))))
+headerNumbers = magic ∷ (major ∷ (minor ∷ (0 ∷ (0 ∷ (mostCaptured ∷ (linkType ∷ []))))))
 
 abbrev pub headerBytes : Bool → List ℕ
 headerBytes big = bytesFor big headerWords headerNumbers

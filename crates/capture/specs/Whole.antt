@@ -6,7 +6,7 @@ use mathlib.Core.Path.{_≡_}
 use Prim.Native.Nat.{ℕ, zero, suc, _+_, _-_, _≤_, _<_}
 use lib.ListN.{length, take, drop}
 use Rattle.words.specs.Layouts.{four, limit}
-use Rattle.capture.specs.Format.{recordSize, Content, contentOf}
+use Rattle.capture.specs.Format.{mostCaptured, recordSize, Content, contentOf}
 use Rattle.capture.specs.Capture.{nextOf}
 use Rattle.capture.specs.declared.Cursor.{Cursor}
 use Rattle.capture.specs.declared.Record.{Record}
@@ -56,7 +56,7 @@ Each P (r ∷ records) = P r × Each P records
 -- the records lie side by side from one place to another: a header, the captured bytes, at most 2,048, and the next record
 abbrev pub Tiles : ℕ → List Record → ℕ → Type 0
 Tiles a [] b = a ≡ b
-Tiles a (r ∷ records) b = (r .from ≡ a + recordSize) × (r .end ≡ r .from + r .captured) × (r .captured ≤ 2048) × Tiles (r .end) records b
+Tiles a (r ∷ records) b = (r .from ≡ a + recordSize) × (r .end ≡ r .from + r .captured) × (r .captured ≤ mostCaptured) × Tiles (r .end) records b
 
 -- the bytes of the records, headers and captured bytes, one after another
 abbrev pub allBytes : List ℕ → List Record → List ℕ
@@ -77,7 +77,7 @@ recordsIn l cursor = map (contentIn l) (courseOf l cursor .records)
 
 -- what can be written: times and an original length of 32 bits, and at most 2,048 bytes
 abbrev pub Writable : Content → Type 0
-Writable r = (r .seconds < limit four) × (r .microseconds < limit four) × (r .original < limit four) × (length (r .bytes) ≤ 2048)
+Writable r = (r .seconds < limit four) × (r .microseconds < limit four) × (r .original < limit four) × (length (r .bytes) ≤ mostCaptured)
 
 abbrev pub AllWritable : List Content → Type 0
 AllWritable [] = Unit {0}

@@ -6,7 +6,7 @@ use Prim.Native.Nat.{ℕ, _+_}
 use lib.Dec.{ltb, leb}
 use lib.ListN.{length}
 use Rattle.words.specs.Words.{stored}
-use Rattle.capture.specs.Format.{headerBytes, Content, recordBytes}
+use Rattle.capture.specs.Format.{mostCaptured, headerBytes, Content, recordBytes}
 use Rattle.capture.specs.declared.Written.{Written}
 use Rattle.capture.specs.declared.Written.the-variants.{Refused, Next}
 
@@ -29,7 +29,7 @@ headerPut at room = bytesPut (headerBytes false) at room
 
 -- "it comes after 8, which the writer gives above 2,048 bytes"
 unfoldable pub recordPut : Content → ℕ → List ℕ → Put
-recordPut r at room = cond (ltb 2048 (length (r .bytes))) (putOf (Refused 8) room) (bytesPut (recordBytes false r) at room)
+recordPut r at room = cond (ltb mostCaptured (length (r .bytes))) (putOf (Refused 8) room) (bytesPut (recordBytes false r) at room)
 
 -- ---- a whole capture, call by call: the header, and then each record where the call before it answered; nothing after a refusal
 abbrev pub nextPut : Content → Written → List ℕ → Put
