@@ -39,6 +39,7 @@ static void print_answer(unsigned number, struct spritgrommet_answer answer)
 int main(void)
 {
     struct spritgrommet gateway = {spritgrommet_factory(), {cell, 5}, {plant, 5}, records, 4096, tags, counts, 1024, 0};
+    gateway.settings.threshold = 10; /* bin/verdicts' own T, and not the factory's */
     size_t length;
     uint8_t *bytes = read_all(stdin, &length);
     struct spritgrommet_opening opening = spritgrommet_open(bytes, length);

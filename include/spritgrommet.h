@@ -116,7 +116,8 @@ struct spritgrommet_written {
 
 /* ---- the functions of the archive, over plain numbers and lent memory ---- */
 
-/* The factory settings: T 10, Cmin -20, Dmiss 60, Dconn 10, keys all zero. */
+/* The factory settings: T 5, for a cell of a dozen machines, Cmin -20, Dmiss 60, Dconn 10, keys all zero. A program that wants another T
+ * sets it; bin/verdicts and bin/forwarded have 10. */
 struct spritgrommet_settings spritgrommet_factory(void);
 
 /* `spritgrommet_start` below, over its parts. */

@@ -29,14 +29,14 @@ pub struct Settings {
 }
 
 impl Settings {
-    /// The factory settings.
+    /// The factory settings: T 5, Cmin -20, Dmiss 60, Dconn 10, keys all zero.
     pub fn factory() -> Settings {
         // SAFETY: the function takes nothing and hands out a value.
         unsafe { raw::spritgrommet_factory() }
     }
 }
 
-/// The number of a refusal, 1 to 8.
+/// The number of a refusal, 1 to 9.
 #[derive(Clone, Copy, Debug, PartialEq, Eq)]
 pub struct Refusal(pub u8);
 

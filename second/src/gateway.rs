@@ -24,9 +24,10 @@ pub struct Settings {
 }
 
 impl Settings {
-    /// "T 10, Cmin -20, Dmiss 60, Dconn 10, keys all zero."
+    /// "T 10, Cmin -20, Dmiss 60, Dconn 10, keys all zero.", and document 02's K2: "the factory T
+    /// becomes 5."
     pub const FACTORY: Settings =
-        Settings { threshold: 10, floor: -20, dmiss: 60, dconn: 10, keys: [0; 8] };
+        Settings { threshold: 5, floor: -20, dmiss: 60, dconn: 10, keys: [0; 8] };
 }
 
 #[derive(Clone, Copy, Debug, PartialEq, Eq)]

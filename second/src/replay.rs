@@ -14,6 +14,10 @@ use crate::sides::Sides;
 const RECORDS: usize = 4096;
 pub const LINES: usize = 256;
 
+/// "with factory settings", but for what K2 of document 02 says: "Callers that took ten by default
+/// name it themselves: the printing program and the writer of K1".
+const SETTINGS: Settings = Settings { threshold: 10, ..Settings::FACTORY };
+
 /// Runs a program over all of standard input. Its status is 1 when the input could not be read or
 /// an output could not be written, else 0.
 pub fn run(program: impl FnOnce(&[u8], &mut dyn Write) -> io::Result<()>) -> ExitCode {
@@ -109,9 +113,9 @@ impl<'a> Replay<'a> {
 /// "An Ethernet frame under 14 bytes is refused by 5; EtherType other than 0x0800 prints verdict
 /// 0; neither reaches the gateway."
 fn judge_frame(gateway: &mut Option<Gateway>, record: &Record) -> Result<Answer, Refusal> {
-    // "starts cold at the first record's second, with factory settings": whatever its frame is.
+    // "starts cold at the first record's second": whatever its frame is.
     let gateway = gateway.get_or_insert_with(|| {
-        Gateway::cold_start(Settings::FACTORY, Sides::PROGRAM, RECORDS, LINES, record.second)
+        Gateway::cold_start(SETTINGS, Sides::PROGRAM, RECORDS, LINES, record.second)
     });
     let Some((ethernet, packet)) = record.frame.split_first_chunk::<14>() else {
         return Err(Refusal::HeaderEndsTooSoon);

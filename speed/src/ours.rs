@@ -5,7 +5,7 @@ use spritgrommet::raw::{self, PlainAnswer};
 
 pub use spritgrommet::Settings;
 
-/// The factory values, but with keys: with none, some additions would cost nothing.
+/// The settings of bin/verdicts, T 10 among them, but with keys: with none, some additions would cost nothing.
 pub const TIMED: Settings = Settings {
     threshold: 10,
     floor: -20,

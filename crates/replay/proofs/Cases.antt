@@ -5,7 +5,6 @@ use mathlib.Core.Path.{_≡_, refl, sym, ap, subst, _∙_}
 use mathlib.Core.List.{List}
 use Prim.Native.Nat.{ℕ}
 use Rattle.settings.specs.declared.Settings.{Settings}
-use Rattle.settings.specs.Settings.{factorySettings}
 use Rattle.capture.specs.declared.Cursor.{Cursor}
 use Rattle.capture.specs.declared.Record.{Record}
 use Rattle.capture.specs.declared.Reading.{Reading}
@@ -19,10 +18,10 @@ use Rattle.gateway.specs.Calls.{State, After, started}
 use Rattle.frames.specs.Frames.{frameJudged}
 use Rattle.replay.specs.declared.Step.{Step}
 use Rattle.replay.specs.declared.Step.the-variants as step
-use Rattle.replay.specs.Replay.{cellList, plantList, startedFirst, recordJudged, judgedStep, byReading, stepped}
+use Rattle.replay.specs.Replay.{programSettings, cellList, plantList, startedFirst, recordJudged, judgedStep, byReading, stepped}
 
 module _ (time : ℕ) (before : State) where
-  pub first : (settings : Settings) (after : After Reply) → settings ≡ factorySettings → after ≡ started settings time before
+  pub first : (settings : Settings) (after : After Reply) → settings ≡ programSettings → after ≡ started settings time before
       → after .state ≡ startedFirst true time before
   unfolding startedFirst
   first settings after e f = rw (f, e)
@@ -32,7 +31,7 @@ module _ (time : ℕ) (before : State) where
   further = refl
 
 pub judged-as : (isFirst : Bool) (bytes : List ℕ) (r : Record) (before middle : State) (settings : Settings) (after : After Answer)
-    → settings ≡ factorySettings
+    → settings ≡ programSettings
     → middle ≡ startedFirst isFirst (r .seconds) before
     → after ≡ frameJudged document01 settings cellList plantList (r .seconds) (bytesOf bytes r) middle
     → after ≡ recordJudged isFirst bytes r before

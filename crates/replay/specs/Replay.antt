@@ -3,6 +3,7 @@
 use mathlib.Core.Bool.{Bool, cond}
 use mathlib.Core.List.{List, [], _∷_}
 use Prim.Native.Nat.{ℕ}
+use Rattle.settings.specs.declared.Settings.{Settings}
 use Rattle.settings.specs.Settings.{factorySettings}
 use Rattle.capture.specs.declared.Cursor.{Cursor}
 use Rattle.capture.specs.declared.Record.{Record}
@@ -25,14 +26,26 @@ cellList = 10 ∷ (0 ∷ (0 ∷ (0 ∷ (8 ∷ []))))
 abbrev pub plantList : List ℕ
 plantList = 192 ∷ (168 ∷ (0 ∷ (0 ∷ (16 ∷ []))))
 
--- it "starts cold at the first record's second, with factory settings"
+-- "with factory settings", and document 02, K2: "the factory T becomes 5. Callers that took ten by default name it themselves: the printing
+-- program and the writer of K1, whose stored outputs stay."
+abbrev pub programSettings : Settings
+programSettings =
+    record {
+      threshold = 10;
+      floor = factorySettings .floor;
+      dmiss = factorySettings .dmiss;
+      dconn = factorySettings .dconn;
+      keys = factorySettings .keys;
+    }
+
+-- it "starts cold at the first record's second"
 unfoldable pub startedFirst : Bool → ℕ → State → State
-startedFirst first time before = cond first (started factorySettings time before .state) before
+startedFirst first time before = cond first (started programSettings time before .state) before
 
 -- a whole record's frame, judged at the record's second
 unfoldable pub recordJudged : Bool → List ℕ → Record → State → After Answer
 recordJudged first bytes r before =
-    frameJudged document01 factorySettings cellList plantList (r .seconds) (bytesOf bytes r) (startedFirst first (r .seconds) before)
+    frameJudged document01 programSettings cellList plantList (r .seconds) (bytesOf bytes r) (startedFirst first (r .seconds) before)
 
 -- a record that is judged, with what was answered
 abbrev pub judgedStep : Record → After Answer → After Step

@@ -3,7 +3,7 @@ ghost use mathlib.Core.Path.{_≡_};
 ghost use Prim.Native.Nat.{_≤_};
 ghost use lib.ListN.{length};
 ghost use Rattle.gateway.specs.Calls.{afterOf, stateOf};
-ghost use Rattle.replay.specs.Replay.{startedFirst, recordJudged, stepped};
+ghost use Rattle.replay.specs.Replay.{programSettings, startedFirst, recordJudged, stepped};
 use capture::Cursor;
 use capture::Reading;
 use capture::Record;
@@ -14,12 +14,24 @@ const CELL: [u8; 5] = [10, 0, 0, 0, 8];
 
 const PLANT: [u8; 5] = [192, 168, 0, 0, 16];
 
+// The programs' own threshold, whatever the factory's is: what they made of a capture they make of it still.
+const T: u16 = 10;
+
 // What one step answers: that no byte is left, that a record is cut off or too long, or a whole record and what the gateway answered.
 pub enum Step {
     End,
     Cut,
     Long,
     Judged { read: Record, answer: Answer },
+}
+
+// The settings of every program that replays a capture: the factory's but for T.
+fn program_settings() -> Settings
+    ensures { λ r. ⌜ r ≡ programSettings ⌝ }
+{
+    let mut set = Settings::factory();
+    set.threshold = T;
+    set
 }
 
 // Starts cold at the first record's second.
@@ -35,7 +47,7 @@ fn start_first(
         ≡ startedFirst «is_first» time (stateOf (now (records .entry)) (now (tags .entry)) (now (counts .entry)) (now (clock .entry))) ⌝ }
 {
     if is_first {
-        gateway::cold_start(Settings::factory(), records, tags, counts, clock, time);
+        gateway::cold_start(program_settings(), records, tags, counts, clock, time);
     }
 }
 
@@ -60,7 +72,7 @@ fn judge_record(
     start_first(is_first, records, tags, counts, clock, time);
     let frame = &bytes[from..end];
     frames::judge(
-        Settings::factory(),
+        program_settings(),
         &CELL,
         &PLANT,
         records,

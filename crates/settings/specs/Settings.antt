@@ -18,6 +18,7 @@ badSettings s =
     outside (pos 1) (pos 255) (pos (s .threshold)) || outside (minus 1000) (pos 0) (s .floor) || outside (pos 1) (pos 3600) (pos (s .dmiss))
     || outside (pos 1) (pos 62) (pos (s .dconn))
 
--- "The factory settings belong to the settings type itself: T 10, Cmin -20, Dmiss 60, Dconn 10, keys all zero."
+-- "The factory settings belong to the settings type itself: T 10, Cmin -20, Dmiss 60, Dconn 10, keys all zero." Document 02, K2: "the
+-- factory T becomes 5".
 abbrev pub factorySettings : Settings
-factorySettings = record { threshold = 10; floor = minus 20; dmiss = 60; dconn = 10; keys = replicate 8 0 }
+factorySettings = record { threshold = 5; floor = minus 20; dmiss = 60; dconn = 10; keys = replicate 8 0 }

@@ -19,8 +19,8 @@ pub struct Settings {
 }
 
 impl Settings {
-    // The factory values of threshold, floor, dmiss and dconn, under document 01's letters.
-    pub const T: u16 = 10;
+    // The factory values of threshold, floor, dmiss and dconn, under document 01's letters; T as document 02, K2, has it.
+    pub const T: u16 = 5;
 
     pub const CMIN: i16 = -20;
 

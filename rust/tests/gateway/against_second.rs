@@ -27,7 +27,7 @@ fn list(random: &mut Random) -> &'static [Entry] {
 
 fn settings(random: &mut Random) -> Settings {
     Settings {
-        threshold: random.pick(&[1, 2, 3, 10, 255]),
+        threshold: random.pick(&[1, 2, 3, 5, 10, 255]),
         floor: random.pick(&[0, -1, -2, -20, -1_000]),
         dmiss: random.pick(&[1, 7, 60, 61, 3_600]),
         dconn: random.pick(&[1, 2, 10, 61, 62]),

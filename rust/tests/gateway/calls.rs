@@ -14,7 +14,7 @@ fn start(settings: Settings, records: usize, lines: usize) -> Result<Gateway, Re
 
 #[test]
 fn factory_settings() {
-    let factory = Settings { threshold: 10, floor: -20, dmiss: 60, dconn: 10, keys: [0; 8] };
+    let factory = Settings { threshold: 5, floor: -20, dmiss: 60, dconn: 10, keys: [0; 8] };
     assert_eq!(Settings::factory(), factory);
 }
 

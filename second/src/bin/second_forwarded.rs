@@ -89,7 +89,7 @@ mod tests {
 
     #[test]
     fn blocked_packets_are_left_out() {
-        // T is 10: ten contacts go through, the eleventh and twelfth are dropped by 6.
+        // T is 10 here: ten contacts go through, the eleventh and twelfth are dropped by 6.
         let passed = capture(true, &contacts(10));
         assert_eq!(forwarded(&capture(true, &contacts(12))), (passed, "end 12 0\n".into()));
         // Another machine's packet behind them is not.

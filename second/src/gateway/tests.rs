@@ -340,11 +340,11 @@ fn decay_over_jumps() {
 #[test]
 fn blocked_at_t_and_released_by_decay() {
     let mut gateway = factory(0);
-    for plant in 0..10 {
+    for plant in 0..5 {
         let count = i64::from(plant) + 1;
         assert_eq!(judged(&mut gateway, 0, &udp(CELL, PLANT + plant)), told(4, count));
     }
-    assert_eq!(judged(&mut gateway, 59, &udp(CELL, PLANT + 10)), told(6, 10));
-    assert_eq!(judged(&mut gateway, 60, &udp(CELL, PLANT + 10)), told(4, 10));
-    assert_eq!(judged(&mut gateway, 60, &udp(CELL, PLANT + 11)), told(6, 10));
+    assert_eq!(judged(&mut gateway, 59, &udp(CELL, PLANT + 5)), told(6, 5));
+    assert_eq!(judged(&mut gateway, 60, &udp(CELL, PLANT + 5)), told(4, 5));
+    assert_eq!(judged(&mut gateway, 60, &udp(CELL, PLANT + 6)), told(6, 5));
 }

@@ -17,8 +17,8 @@ part-frame-start c = search needs
 part-frame-end : tie.Need-part-frame-end
 part-frame-end c = search needs
 
-factory-requires : tie.Need-factory-requires
-factory-requires c κs = search needs
+program-settings-requires : tie.Need-program-settings-requires
+program-settings-requires c κs = search needs
 
 slice-aggregate-judge : tie.Need-slice-aggregate-judge
 slice-aggregate-judge c = search needs
@@ -39,7 +39,7 @@ same-length-3 : tie.Need-same-length-3
 same-length-3 c = search needs
 
 returns : tie.Need-returns
-returns c = judged-as _ _ (c .before .before .before .before .before .before .before .before .before .before .before .before .before .before .before .before .before .before .before .before .before .before .before .before .before .before .before .args .read) _ _ _ _ (c .before .before .before .before .before .before .before .before .before .before .before .before .factory .ensures .0) (c .before .before .before .before .before .before .before .before .before .before .before .before .before .before .before .before .before .before .before .start-first .ensures) (c .before .before .before .before .before .judge .ensures)
+returns c = judged-as _ _ (c .before .before .before .before .before .before .before .before .before .before .before .before .before .before .before .before .before .before .before .before .before .before .before .before .before .before .before .args .read) _ _ _ _ (c .before .before .before .before .before .before .before .before .before .before .before .before .program-settings .ensures) (c .before .before .before .before .before .before .before .before .before .before .before .before .before .before .before .before .before .before .before .start-first .ensures) (c .before .before .before .before .before .judge .ensures)
 
 pub judge-record-spec : {M : Type 1} → statement M
 judge-record-spec =
@@ -49,7 +49,7 @@ judge-record-spec =
     sub-frame
     part-frame-start
     part-frame-end
-    factory-requires
+    program-settings-requires
     slice-aggregate-judge
     slice-aggregate-judge-2
     judge-requires

@@ -6,8 +6,8 @@ use Rattle.replay.proofs.Cases.{first, further}
 use Rattle.replay.proofs.start_first.Statement.{statement}
 use Rattle.replay.proofs.start_first.Tie as tie
 
-factory-requires : tie.Need-factory-requires
-factory-requires c κs = search needs
+program-settings-requires : tie.Need-program-settings-requires
+program-settings-requires c κs = search needs
 
 cold-start-requires : tie.Need-cold-start-requires
 cold-start-requires c κs = search needs
@@ -23,7 +23,7 @@ same-length-3 c = search needs
 
 returns : tie.Need-returns
 returns c = rw (c .before .before .before .before .before .before .before .before .before .before .before .if1 .taken)
-    (first _ _ _ _ (c .before .before .before .before .before .before .before .before .before .before .factory .ensures .0) (c .before .before .before .before .before .cold-start .ensures))
+    (first _ _ _ _ (c .before .before .before .before .before .before .before .before .before .before .program-settings .ensures) (c .before .before .before .before .before .cold-start .ensures))
 
 returns-2 : tie.Need-returns-2
 returns-2 c = rw (c .if1 .left) (sym (further _ _))
@@ -32,7 +32,7 @@ pub start-first-spec : {M : Type 1} → statement M
 start-first-spec =
     tie.close
     (tie.spec
-    factory-requires
+    program-settings-requires
     cold-start-requires
     same-length
     same-length-2
