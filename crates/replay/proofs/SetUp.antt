@@ -1,17 +1,22 @@
--- How the programs are set up is good: with tables of their sizes the first record always starts the gateway, and of the numbers 1 to 4 no
--- record gets another than 4.
+-- How the programs are set up is never refused: with tables of their sizes, which no call can change, the first record always starts the
+-- gateway, and a packet is refused by 4 or by its header's number, and by no other.
 -- Assumes nothing.
 use mathlib.Core.Bool.{true, cond}
-use mathlib.Core.Path.{_≡_, refl}
+use mathlib.Core.List.{List}
+use mathlib.Core.Path.{_≡_, refl, _∙_}
 use Prim.Native.Nat.{ℕ}
 use lib.Dec.{ltb}
 use lib.ListN.{length}
 use Rattle.laws.specs.Search.{every}
 use Rattle.settings.specs.Settings.{badSettings}
 use Rattle.sides.specs.Lists.{badList}
+use Rattle.packet.specs.Header.{headerRefusal}
 use Rattle.tables.specs.Sizes.{badSizes}
+use Rattle.rulings.specs.Answers.{refusalTold}
+use Rattle.rulings.specs.Rules.{document01}
 use Rattle.refusals.specs.Refusals.{startRefusal, earlyRefusal}
-use Rattle.gateway.specs.Calls.{State, bySizes, coldState, started}
+use Rattle.gateway.specs.Calls.{State, orElse, packetRefusal, coldState, started, judged}
+use Rattle.gateway.proofs.Refusals.{packet-told}
 use Rattle.replay.specs.Replay.{programSettings, cellList, plantList, startedFirst}
 
 -- "a cold table of 4,096 records and 256 lines"
@@ -21,7 +26,13 @@ module _ (time : ℕ) (before : State) (records : length (before .tables .record
   unfolding startedFirst started startRefusal badSettings badSizes
   starts = rw (records, tags, counts) refl
 
-  pub by-four-alone : bySizes (earlyRefusal programSettings) (before .tables) cellList plantList (before .clock) time
-      ≡ cond (ltb time (before .clock)) 4 0
-  unfolding every earlyRefusal badSettings badSizes badList
-  by-four-alone = rw (records, tags, counts) refl
+  module _ (bytes : List ℕ) where
+    abbrev fourOrHeader : ℕ
+    fourOrHeader = orElse (cond (ltb time (before .clock)) 4 0) (headerRefusal bytes)
+
+    no-other : packetRefusal programSettings cellList plantList time bytes before ≡ fourOrHeader
+    unfolding every earlyRefusal badSettings badSizes badList
+    no-other = rw (records, tags, counts) refl
+
+    pub by-four-or-header : refusalTold (judged document01 programSettings cellList plantList time bytes before .answer) ≡ fourOrHeader
+    by-four-or-header = packet-told programSettings time before document01 cellList plantList bytes ∙ no-other
