@@ -2,6 +2,10 @@
 ghost use mathlib.Core.Path.{_≡_};
 ghost use mathlib.Core.List.{map};
 ghost use Prim.Native.Nat.{min};
+ghost use lib.IntN.{pos};
+ghost use lib.ListN.{length, getD};
+ghost use lib.Signed.{leZ};
+ghost use Rattle.laws.specs.Search.{every};
 ghost use Rattle.counts.specs.Counts.{isEmpty, isBlocked, loweredBy, raisedBy, decayedBy};
 
 // Whether an entry with this count is empty: only -32,768 says so.
@@ -71,16 +75,48 @@ pub fn decayed(count: i16, points: u64) -> i16
     fallen(count, steps_of(points))
 }
 
-// Decays every count by so many points. By none, none is touched.
+// The counts that are looked at together before the first is stored to: 64 bytes, which memory takes at a time.
+const PART: usize = 32;
+
+// Whether no count of a part is positive, so that all of them stay as they are.
+fn none_positive(counts: &[i16]) -> bool
+    ensures { λ r. ⌜ r ≡ every (length (now (counts .entry))) (λ k. leZ (getD (now (counts .entry)) k (pos 0)) (pos 0)) ⌝ }
+{
+    let mut none = true;
+    let mut i = 0;
+    while i < counts.len() {
+        none = (counts[i] <= 0) & none;
+        i += 1;
+    }
+    none
+}
+
+// Decays each count, and stores to each, so that the processor takes many at once.
+fn decay_each(counts: &mut [i16], points: u64)
+    ensures { λ _. ⌜ now (counts .exit) ≡ map (decayedBy points) (now (counts .entry)) ⌝ }
+{
+    let mut i = 0;
+    while i < counts.len() {
+        counts[i] = decayed(counts[i], points);
+        i += 1;
+    }
+}
+
+// Decays every count by so many points. None is stored to before the first part that has a positive one: while there is none, looking is
+// half the work, and from there on the sweep costs what it would without having looked. By no points, none is touched.
 pub fn decay_all(counts: &mut [i16], points: u64)
     ensures { λ _. ⌜ now (counts .exit) ≡ map (decayedBy points) (now (counts .entry)) ⌝ }
 {
     if points == 0 {
         return;
     }
-    let mut i = 0;
-    while i < counts.len() {
-        counts[i] = decayed(counts[i], points);
-        i += 1;
+    let mut at = 0;
+    while at + PART <= counts.len() {
+        if none_positive(&counts[at..at + PART]) {
+            at += PART;
+        } else {
+            break;
+        }
     }
+    decay_each(&mut counts[at..], points);
 }

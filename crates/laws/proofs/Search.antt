@@ -1,7 +1,7 @@
 -- Laws of `every`, `firstBelow` and `foremost`, and the invariant of every loop that searches.
 -- Assumes nothing.
 use mathlib.Core.Path.{_≡_, refl, sym, ap, subst, _∙_}
-use mathlib.Core.Bool.{Bool, true, false, cond}
+use mathlib.Core.Bool.{Bool, true, false, _&&_, cond}
 use Prim.Native.Nat.{ℕ, zero, suc, _+_, _≤_, _<_, zero-le, suc-le-suc}
 use native.Mathlib.Nat.{not-suc-le-zero, le-of-suc-le-suc}
 use native.Mathlib.Numerals.{add-one}
@@ -18,9 +18,13 @@ pub every-none : (p : ℕ → Bool) → every 0 p ≡ true
 unfolding every
 every-none p = refl
 
-pub every-more : (n : ℕ) (p : ℕ → Bool) → every n p ≡ true → p n ≡ true → every (n + 1) p ≡ true
+-- a loop that tests one more
+pub every-next : (n : ℕ) (p : ℕ → Bool) → every (n + 1) p ≡ (p n && every n p)
 unfolding every
-every-more n p e h = rw add-one (and-yes h e)
+every-next n p = rw add-one refl
+
+pub every-more : (n : ℕ) (p : ℕ → Bool) → every n p ≡ true → p n ≡ true → every (n + 1) p ≡ true
+every-more n p e h = every-next n p ∙ and-yes h e
 
 pub every-at : (n : ℕ) (p : ℕ → Bool) → every n p ≡ true → (k : ℕ) → k < n → p k ≡ true
 unfolding every
@@ -38,6 +42,20 @@ every-is (suc n) p h = and-yes (h n (omega arith)) (every-is n p (λ k l. h k (o
 
 pub every-not : (n : ℕ) (p : ℕ → Bool) (k : ℕ) → k < n → p k ≡ false → every n p ≡ false
 every-not n p k h e = is-false (every n p) (λ t. true-is-not-false (every-at n p t k h) e)
+
+-- a loop that tests all of them: its invariant, after i turns
+pub record Testing (n : ℕ) (p : ℕ → Bool) (t : Bool) (i : ℕ) : Type 0 where
+  pub within : i ≤ n
+  pub is : t ≡ every i p
+
+pub test-start : (n : ℕ) (p : ℕ → Bool) → Testing n p true 0
+test-start n p = record { within = zero-le; is = sym (every-none p) }
+
+pub test-turn : {n : ℕ} {p : ℕ → Bool} {t : Bool} {i : ℕ} → Testing n p t i → i < n → Testing n p (p i && t) (i + 1)
+test-turn {n} {p} {t} {i} s h = record { within = omega arith; is = ap (λ (b : Bool). p i && b) (s .is) ∙ sym (every-next i p) }
+
+pub test-end : {n : ℕ} {p : ℕ → Bool} {t : Bool} {i : ℕ} → Testing n p t i → n ≤ i → t ≡ every n p
+test-end {n} {p} {t} {i} s h = let e : i ≡ n = omega (arith, s .within) in s .is ∙ ap (λ (k : ℕ). every k p) e
 
 -- ---- the first
 -- the test fails below k and passes at k: k is the first

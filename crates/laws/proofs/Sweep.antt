@@ -1,13 +1,17 @@
--- A loop that replaces each element of a list by its image, one store a turn: after i turns the list is `swept f i d`. For any type
--- of element; filling a list with one value is the sweep by a constant.
+-- A loop that replaces each element of a list by its image, one store a turn, or a part of the list a turn: once i elements are done the
+-- list is `swept f i d`. For any type of element; filling a list with one value is the sweep by a constant.
 -- Assumes nothing.
-use mathlib.Core.Path.{_≡_, refl, sym, ap, _∙_}
-use mathlib.Core.List.{List, [], _∷_, map}
-use Prim.Native.Nat.{ℕ, zero, suc, _+_, _≤_, _<_, zero-le}
+use mathlib.Core.Path.{_≡_, refl, sym, ap, subst, _∙_}
+use mathlib.Core.Bool.{Bool, true}
+use mathlib.Core.List.{List, [], _∷_, _++_, map}
+use Prim.Native.Nat.{ℕ, zero, suc, _+_, _-_, _≤_, _<_, zero-le, suc-le-suc}
 use native.Mathlib.Omega.{arith}
-use native.Mathlib.Nat.{not-suc-le-zero, le-of-suc-le-suc}
+use native.Mathlib.Nat.{not-suc-le-zero, le-of-suc-le-suc, zero-add, suc-add}
 use native.Mathlib.Numerals.{add-one}
-use lib.ListN.{length, set, getD, length-set, replicate}
+use lib.ListN.{length, take, drop, set, getD, length-set, length-map, replicate}
+use borrow.Rule.Slice.PartMut.{midOf, putMid, put-same, same-len-mid}
+use Rattle.laws.specs.Search.{every}
+use Rattle.laws.proofs.Search.{every-at}
 
 module _ {A : Type 0} where
   -- the first i elements of d are their images
@@ -47,6 +51,25 @@ module _ {A : Type 0} where
       ∙ swept-suc f i d z h
       ∙ ap (λ (k : ℕ). swept f k d) (sym (add-one i))
 
+  -- the first n elements of a list as a part, and so the next n of a list of which i are done
+  swept-front : (f : A → A) (n : ℕ) (d : List A) → map f (take n d) ++ drop n d ≡ swept f n d
+  unfolding swept
+  swept-front f zero d = refl
+  swept-front f (suc n) [] = refl
+  swept-front f (suc n) (x ∷ d) = ap (λ (t : List A). f x ∷ t) (swept-front f n d)
+
+  swept-empty : (f : A → A) (n : ℕ) → swept f n [] ≡ []
+  unfolding swept
+  swept-empty f zero = refl
+  swept-empty f (suc n) = refl
+
+  swept-part : (f : A → A) (i n : ℕ) (d : List A) → putMid i n (swept f i d) (map f (midOf i n (swept f i d))) ≡ swept f (i + n) d
+  unfolding swept
+  swept-part f zero n d = swept-front f n d ∙ ap (λ (k : ℕ). swept f k d) (sym (zero-add n))
+  swept-part f (suc i) n [] = swept-front f n [] ∙ swept-empty f n ∙ sym (swept-empty f (suc i + n))
+  swept-part f (suc i) n (x ∷ d) =
+      ap (λ (t : List A). f x ∷ t) (swept-part f i n d) ∙ ap (λ (k : ℕ). swept f k (x ∷ d)) (sym (suc-add i n))
+
   -- at the end every element is its image
   pub swept-all : (f : A → A) (i : ℕ) (d : List A) → length d ≤ i → swept f i d ≡ map f d
   unfolding swept
@@ -72,6 +95,20 @@ module _ {A : Type 0} where
         is = swept-more f i d l z v (omega arith) (s .is) e;
       }
 
+  -- a turn that is lent the next elements, up to e, as a part
+  pub sweep-part : {f : A → A} {d l part : List A} {i : ℕ} (e : ℕ) → Sweeping f d l i → i ≤ e → e ≤ length l → part ≡ map f (midOf i (e - i) l) → Sweeping f d (putMid i (e - i) l part) e
+  sweep-part {f} {d} {l} {part} {i} e s h g q =
+      let whole : i + (e - i) ≡ e = omega arith in
+      record {
+        within = omega (arith, s .long);
+        long = same-len-mid i (e - i) l part (ap length q ∙ length-map (midOf i (e - i) l) f) ∙ s .long;
+        is = (λ j. putMid i (e - i) (s .is j) (q j)) ∙ ap (λ (x : List A). putMid i (e - i) (swept f i d) (map f (midOf i (e - i) x))) (s .is) ∙ swept-part f i (e - i) d ∙ ap (λ (k : ℕ). swept f k d) whole;
+      }
+
+  -- a turn that leaves the next elements, up to e, alone: they are their own images
+  pub sweep-skip : {f : A → A} {d l : List A} {i : ℕ} (e : ℕ) → Sweeping f d l i → i ≤ e → e ≤ length l → map f (midOf i (e - i) l) ≡ midOf i (e - i) l → Sweeping f d l e
+  sweep-skip {f} {d} {l} {i} e s h g q = subst (λ (x : List A). Sweeping f d x e) (put-same i (e - i) l) (sweep-part e s h g (sym q))
+
   pub sweep-end : {f : A → A} {d l : List A} {i : ℕ} → Sweeping f d l i → length l ≤ i → l ≡ map f d
   sweep-end {f} {d} {l} {i} s h = s .is ∙ swept-all f i d (omega arith)
 
@@ -96,6 +133,14 @@ module _ {A : Type 0} where
   pub map-same : (f : A → A) → ((x : A) → f x ≡ x) → (l : List A) → map f l ≡ l
   map-same f h [] = refl
   map-same f h (x ∷ l) = λ i. h x i ∷ map-same f h l i
+
+  -- a list in which every element passes a test, where the test says that the element is its own image
+  pub map-still : (f : A → A) (p : A → Bool) (z : A) → ((x : A) → p x ≡ true → f x ≡ x) → (l : List A) → every (length l) (λ k. p (getD l k z)) ≡ true → map f l ≡ l
+  map-still f p z h l e = go l (every-at (length l) (λ k. p (getD l k z)) e)
+    where
+      go : (l : List A) → ((k : ℕ) → k < length l → p (getD l k z) ≡ true) → map f l ≡ l
+      go [] e = refl
+      go (x ∷ l) e = λ i. h x (e 0 (suc-le-suc zero-le)) i ∷ go l (λ k b. e (suc k) (suc-le-suc b)) i
 
   -- two sweeps that come to one
   pub map-twice : (f g h : A → A) → ((x : A) → f x ≡ g (h x)) → (l : List A) → map f l ≡ map g (map h l)

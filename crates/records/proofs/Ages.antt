@@ -4,11 +4,11 @@ use mathlib.Core.Path.{_≡_, refl, sym, ap, _∙_}
 use mathlib.Core.Bool.{Bool, true, false, not, _||_, cond}
 use Prim.Native.Nat.{ℕ, zero, suc, _+_, _%_, _/_, _≤_, _<_, min}
 use native.Mathlib.Omega.{arith}
-use lib.Dec.{ltb}
-use borrow.Author.Tests.{lt-ltb, le-ltb, eq-eqb, ne-eqb}
+use lib.Dec.{ltb, eqb}
+use borrow.Author.Tests.{lt-ltb, le-ltb, eq-eqb, ne-eqb, eqb-true}
 use Rattle.laws.specs.Times.{times}
 use Rattle.laws.proofs.Times.{times-none, times-more, times-add}
-use Rattle.laws.proofs.Tests.{Which, below, above, which}
+use Rattle.laws.proofs.Tests.{Which, below, above, which, eqb-same}
 use Rattle.records.specs.declared.Marks.{Marks}
 use Rattle.records.specs.Records.{plantSeen, cellSeen, isCold, ageOf, minutePassed, agedBy}
 use Rattle.records.proofs.Parts.{same-marks, older-age}
@@ -74,6 +74,14 @@ aged-cold d (suc zero) b c h = aged-more d 0 b ∙ ap (minutePassed d) (aged-non
 aged-cold d (suc (suc m)) b c h =
     aged-more d (suc m) b ∙ ap (minutePassed d) (aged-cold d (suc m) b c (omega arith)) ∙ zero-stays d
 
+-- and 0 is the one that any number of minutes leaves alone
+pub zero-same : (d m b : ℕ) → eqb b 0 ≡ true → agedBy d m b ≡ b
+zero-same d m b t = let e = eqb-true b 0 t in go m (low-is-cold b (omega arith))
+  where
+    go : (m : ℕ) → isCold b ≡ true → agedBy d m b ≡ b
+    go zero c = aged-none d b
+    go (suc m) c = aged-cold d (suc m) b c (omega arith) ∙ sym (eqb-true b 0 t)
+
 -- a marked one is so many minutes older while that is not too old
 pub aged-kept : (d m b : ℕ) → isCold b ≡ false → ageOf b + m ≤ min d 63 → agedBy d m b ≡ b + m
 aged-kept d zero b c h = aged-none d b ∙ omega arith
@@ -96,6 +104,18 @@ aged-old d (suc (suc m)) b c h p = aged-more d (suc m) b ∙ last (which (min d 
     last (above l) before =
         let older = older-age b (suc m) (omega arith) in
         ap (minutePassed d) (aged-kept d (suc m) b c l) ∙ cleared-old d (b + suc m) (omega arith)
+
+-- ---- which records differ after a minute boundary or several: those that are not 0, and no others
+pub differs : (d m b : ℕ) → b < 256 → 0 < m → eqb (agedBy d m b) b ≡ eqb b 0
+differs d m b l p = eqb-same (agedBy d m b) b b 0 (λ e. go (which b 64) e) (λ e. zero-same d m b (eq-eqb b 0 e))
+  where
+    marked : 64 ≤ b → Which (min d 63) (ageOf b + m) → agedBy d m b ≡ b → b ≡ 0
+    marked h (below k) e = sym e ∙ aged-old d m b (high-is-marked b h l) k p
+    marked h (above k) e = let kept = aged-kept d m b (high-is-marked b h l) k in absurd (omega arith)
+
+    go : Which b 64 → agedBy d m b ≡ b → b ≡ 0
+    go (below h) e = sym e ∙ aged-cold d m b (low-is-cold b h) p
+    go (above h) e = marked h (which (min d 63) (ageOf b + m)) e
 
 -- ---- in bytes
 -- no age is over 63, so that 64 minutes do what more of them do

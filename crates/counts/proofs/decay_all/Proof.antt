@@ -1,25 +1,25 @@
--- `counts::decay_all` meets its contract: one sweep, and none where there is nothing to take.
+-- `counts::decay_all` meets its contract: what stands before the first part with a positive count stays, and the rest is one sweep; none
+-- where there is nothing to take.
 -- Assumes nothing.
-use mathlib.Core.Path.{sym, ap, _∙_}
+use mathlib.Core.Path.{sym, _∙_}
 use Prim.Native.Nat.{_-_}
 use native.Mathlib.Omega.{arith}
 use lib.IntN.{pos}
 use lib.ListN.{length}
+use lib.Signed.{leZ}
 use denote.Ref.{now}
-use mir.Syntax.{w16}
-use mir.ValLaws.{toZ-ofZ}
-use borrow.Author.Needs.{needs}
-use Rattle.laws.proofs.Sweep.{Sweeping, sweep-start, sweep-turn, sweep-end, map-none}
-use Rattle.counts.proofs.Counts.{decayed-none}
+use Rattle.laws.proofs.Sweep.{Sweeping, sweep-start, sweep-part, sweep-skip, sweep-end, map-none, map-still}
+use Rattle.counts.proofs.Counts.{decayed-none, not-positive-same}
 use Rattle.counts.specs.Counts.{decayedBy}
+use borrow.Author.Needs.{needs}
 use Rattle.counts.proofs.decay_all.Statement.{statement}
 use Rattle.counts.proofs.decay_all.Tie as tie
 
 abbrev Inv-loop : tie.InvT-loop
-Inv-loop counts₀ points i₀ counts i = Sweeping (decayedBy points) counts₀ counts i
+Inv-loop counts points at₀ at = Sweeping (decayedBy points) counts counts at
 
 abbrev μ-loop : tie.MeasureT-loop
-μ-loop counts₀ points i₀ counts i = length counts₀ - i
+μ-loop counts points at₀ at = length counts - at
 
 returns : tie.Need-returns Inv-loop μ-loop
 returns c =
@@ -29,40 +29,63 @@ returns c =
 loop-holds : tie.Need-loop-holds Inv-loop μ-loop
 loop-holds c = sweep-start _ _
 
-mul-decayed : tie.Need-mul-decayed Inv-loop μ-loop
-mul-decayed c = search needs
+add-loop : tie.Need-add-loop Inv-loop μ-loop
+add-loop c = search needs
 
-slice-copy-out-decayed : tie.Need-slice-copy-out-decayed Inv-loop μ-loop
-slice-copy-out-decayed c = search needs
+add-none-positive : tie.Need-add-none-positive Inv-loop μ-loop
+add-none-positive c = search needs
 
-decayed-requires : tie.Need-decayed-requires Inv-loop μ-loop
-decayed-requires c κs = search needs
+mul-none-positive : tie.Need-mul-none-positive Inv-loop μ-loop
+mul-none-positive c = search needs
 
-mul-t10 : tie.Need-mul-t10 Inv-loop μ-loop
-mul-t10 c = search needs
+sub-none-positive : tie.Need-sub-none-positive Inv-loop μ-loop
+sub-none-positive c = search needs
 
-slice-set-from-counts : tie.Need-slice-set-from-counts Inv-loop μ-loop
-slice-set-from-counts c = search needs
+part-none-positive-start : tie.Need-part-none-positive-start Inv-loop μ-loop
+part-none-positive-start c = search needs
 
-add-i : tie.Need-add-i Inv-loop μ-loop
-add-i c = omega arith
+part-none-positive-end : tie.Need-part-none-positive-end Inv-loop μ-loop
+part-none-positive-end c = search needs
+
+none-positive-requires : tie.Need-none-positive-requires Inv-loop μ-loop
+none-positive-requires c κs = search needs
+
+add-at : tie.Need-add-at Inv-loop μ-loop
+add-at c = search needs
 
 loop-less : tie.Need-loop-less Inv-loop μ-loop
-loop-less c = omega arith
+loop-less c = search needs
 
 loop-again : tie.Need-loop-again Inv-loop μ-loop
 loop-again c =
-    let w = c .before .before in
-    sweep-turn (pos 0) _ (w .before .loop .inv) (w .loop-test .taken)
-    (toZ-ofZ w16 _ (record { sfits = c .decayed .ok })
-    ∙ c .decayed .ensures
-    ∙ ap (decayedBy (w .before .before .before .args .points)) (toZ-ofZ w16 _ (record { sfits = c .before .decayed-arg .given })))
+    let t = c .before .before .before .before in
+    let s = t .before .before .before in
+    let still = map-still (decayedBy (s .args .points)) (λ z. leZ z (pos 0)) (pos 0) (not-positive-same (s .args .points)) _ (sym (c .before .none-positive .ensures) ∙ c .if2 .taken) in
+    sweep-skip _ (t .before .loop .inv) (omega arith) (t .loop-test .taken) still
+
+mul-decay-each : tie.Need-mul-decay-each Inv-loop μ-loop
+mul-decay-each c = search needs
+
+sub-decay-each : tie.Need-sub-decay-each Inv-loop μ-loop
+sub-decay-each c = search needs
+
+part-decay-each-start : tie.Need-part-decay-each-start Inv-loop μ-loop
+part-decay-each-start c = search needs
+
+part-decay-each-end : tie.Need-part-decay-each-end Inv-loop μ-loop
+part-decay-each-end c = search needs
+
+decay-each-requires : tie.Need-decay-each-requires Inv-loop μ-loop
+decay-each-requires c κs = search needs
 
 same-length : tie.Need-same-length Inv-loop μ-loop
-same-length c = c .before .loop .inv .long
+same-length c = search needs
 
 returns-2 : tie.Need-returns-2 Inv-loop μ-loop
-returns-2 c = sweep-end (c .before .loop .inv) (c .loop-test .left)
+returns-2 c =
+    let w = c .before in
+    let t = w .before .before in
+    sweep-end (sweep-part _ (t .before .loop .inv) (omega arith) (omega arith) (w .decay-each .ensures)) (omega arith)
 
 pub decay-all-spec : {M : Type 1} → statement M
 decay-all-spec =
@@ -72,13 +95,20 @@ decay-all-spec =
     μ-loop
     returns
     loop-holds
-    mul-decayed
-    slice-copy-out-decayed
-    decayed-requires
-    mul-t10
-    slice-set-from-counts
-    add-i
+    add-loop
+    add-none-positive
+    mul-none-positive
+    sub-none-positive
+    part-none-positive-start
+    part-none-positive-end
+    none-positive-requires
+    add-at
     loop-less
     loop-again
+    mul-decay-each
+    sub-decay-each
+    part-decay-each-start
+    part-decay-each-end
+    decay-each-requires
     same-length
     returns-2)
