@@ -1,10 +1,10 @@
 //! Instructions and data writes, counted by callgrind: steady figures, whatever else the machine does.
 
-use crate::boundary::{sweep_some, LARGEST};
+use crate::boundary::{Sort, COUNTS, LARGEST, RECORDS};
 use crate::cipher;
 use crate::judging::{self, judge_some};
 use crate::ours::{self, TIMED};
-use crate::stopwatch::{head, row};
+use crate::stopwatch::{commas, head, row};
 use crate::trace::KINDS;
 use std::hint::black_box;
 use std::process::{Command, Stdio};
@@ -14,9 +14,14 @@ const NOTES: &str = "\
     The instructions of a run of 2n less those of n, by n; the loop around the call is in them. n is 20,000 words, or \
     20,000 packets on 4,096 records (of 40,000, whichever are judged, so that making them falls out). The ratio is another \
     program's instructions by ours: above 1.00 ours takes fewer.";
-const BOUNDARY_NOTES: &str = "\
-    One minute boundary over 1,048,576 records, of which so many are marked, with ages 0 to 62; by record. A write is one \
-    that the processor is told to make, whether of one byte or of sixteen.";
+const RECORD_NOTES: &str = "\
+    One minute boundary over 1,048,576 records, of which so many are marked, with ages 0 to 62. A store is one that the \
+    processor is told to make, whether of one byte or of sixteen. A line is 64 bytes of memory, of which the table has \
+    16,384: so many are written back once the table is out of the cache, for which callgrind is given one of 65,536 bytes. The \
+    table starts where a line does.";
+const COUNT_NOTES: &str = "\
+    The same of one multiple of Dmiss over 1,048,576 counts, of which so many are positive; they have 32,768 lines of memory.";
+const DIFFERING: [usize; 4] = [0, 1, 20, 100];
 
 /// Inlined, so that each program is called directly.
 #[inline(always)]
@@ -34,32 +39,36 @@ pub fn work(what: &str, numbers: &[&str]) {
         ("encrypt", 1) => encrypt_often(times, cipher::encrypt),
         ("encrypt", _) => encrypt_often(times, cipher::encrypt_in_c),
         ("judge", _) => judge_some(KINDS[which], program, times),
-        _ => sweep_some(which as u32, program, times),
+        ("age", _) => RECORDS.sweep_some(which as u32, program, times),
+        _ => COUNTS.sweep_some(which as u32, program, times),
     }
 }
 
-/// The instructions and data writes of such a run.
-fn counted(what: &str, numbers: [usize; 3]) -> [f64; 2] {
+/// The instructions and stores of such a run, and the lines of memory that it writes back.
+fn counted(what: &str, numbers: [usize; 3]) -> [f64; 3] {
     let this = std::env::current_exe().expect("the program does not know its own name");
     let out = std::env::temp_dir().join(format!("speed-{}.callgrind", std::process::id()));
     let mut command = Command::new("valgrind");
-    command.args(["--tool=callgrind", "--cache-sim=yes", &format!("--callgrind-out-file={}", out.display())]).arg(this);
+    command.args(["--tool=callgrind", "--simulate-wb=yes", "--D1=32768,8,64", "--LL=65536,16,64"]);
+    command.arg(format!("--callgrind-out-file={}", out.display())).arg(this);
     command.args(["work", what]).args(numbers.map(|number| number.to_string())).stderr(Stdio::null());
     let status = command.status();
     assert!(status.is_ok_and(|status| status.success()), "valgrind failed; apt-get install -y valgrind");
     let text = std::fs::read_to_string(&out).expect("callgrind left no figures");
     let _ = std::fs::remove_file(&out);
     let words = |start| text.lines().find_map(|line| line.strip_prefix(start)).unwrap_or("").split_whitespace();
-    ["Ir", "Dw"].map(|event| {
+    let total = |event: &str| -> f64 {
         let total = words("events: ").zip(words("totals: ")).find(|(name, _)| *name == event);
         total.and_then(|(_, number)| number.parse().ok()).expect("callgrind's figures lack a total")
-    })
+    };
+    // What leaves the cache changed leaves it for what is read or written in its place.
+    [total("Ir"), total("Dw"), total("DLdmr") + total("DLdmw")]
 }
 
 /// The same for each time, without what a run costs however often the thing is done.
-fn counted_each(what: &str, which: usize, program: usize, times: usize) -> [f64; 2] {
+fn counted_each(what: &str, which: usize, program: usize, times: usize) -> [f64; 3] {
     let [more, less] = [2 * times, times].map(|times| counted(what, [which, program, times]));
-    [0, 1].map(|event| (more[event] - less[event]) / times as f64)
+    std::array::from_fn(|event| (more[event] - less[event]) / times as f64)
 }
 
 fn put_rows(of: &str, what: &str, which: usize, programs: &[&str]) {
@@ -69,10 +78,13 @@ fn put_rows(of: &str, what: &str, which: usize, programs: &[&str]) {
     }
 }
 
-fn put_boundary(percent: usize) {
-    for (program, name) in judging::NAMES[..2].iter().enumerate() {
-        let each = counted_each("sweep", percent, program, 1).map(|events| format!("{:.4}", events / LARGEST as f64));
-        row(&[&format!("{percent} %"), *name, &each[0], &each[1]]);
+fn put_sweeps<T>(what: &str, sort: &Sort<T>) {
+    for percent in DIFFERING {
+        for (program, (name, _)) in sort.programs.iter().enumerate() {
+            let [instructions, stores, lines] = counted_each(what, percent, program, 1);
+            let each = format!("{:.4}", instructions / LARGEST as f64);
+            row(&[&format!("{percent} %"), *name, &each, &commas(stores), &commas(lines)]);
+        }
     }
 }
 
@@ -82,6 +94,9 @@ pub fn put_tables() {
     for (which, kind) in KINDS.iter().enumerate() {
         put_rows(&format!("judge, a packet: {}", kind.name), "judge", which, &judging::NAMES);
     }
-    head("A minute boundary", BOUNDARY_NOTES, &["marked", "program", "instructions", "data writes"]);
-    [0, 1, 20, 100].into_iter().for_each(put_boundary);
+    let columns = ["differ", "program", "instructions an element", "stores", "lines written"];
+    head("Instructions and stores of a minute boundary", RECORD_NOTES, &columns);
+    put_sweeps("age", &RECORDS);
+    head("Instructions and stores of a multiple of Dmiss", COUNT_NOTES, &columns);
+    put_sweeps("decay", &COUNTS);
 }

@@ -161,7 +161,7 @@ impl Header {
 }
 
 /// Ages each record by so many minute boundaries, one or more.
-fn sweep(records: &mut [u8], minutes: u32, dconn: u8) {
+pub fn sweep(records: &mut [u8], minutes: u32, dconn: u8) {
     let minutes = minutes.min(64) as u8;
     for record in records {
         let is_kept = *record >= CELL_SEEN && (*record & 63) + minutes <= dconn;

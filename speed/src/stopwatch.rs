@@ -40,10 +40,15 @@ pub fn timed(work: impl FnOnce()) -> Duration {
 
 /// Each contender prepares what it needs and answers how long the part took that counts.
 pub fn in_turn(contenders: &mut [&mut dyn FnMut() -> Duration]) -> Vec<Figures> {
-    let mut times = vec![Vec::new(); contenders.len()];
+    in_turn_by(contenders.len(), |which| contenders[which]())
+}
+
+/// The same of so many contenders by their numbers.
+pub fn in_turn_by(contenders: usize, mut contend: impl FnMut(usize) -> Duration) -> Vec<Figures> {
+    let mut times = vec![Vec::new(); contenders];
     for _ in 0..rounds() {
-        for (contender, times) in contenders.iter_mut().zip(&mut times) {
-            times.push(contender().as_secs_f64());
+        for (which, times) in times.iter_mut().enumerate() {
+            times.push(contend(which).as_secs_f64());
         }
     }
     times.iter_mut().for_each(|times| times.sort_by(f64::total_cmp));

@@ -112,6 +112,17 @@ module _ {A : Type 0} where
   pub sweep-end : {f : A → A} {d l : List A} {i : ℕ} → Sweeping f d l i → length l ≤ i → l ≡ map f d
   sweep-end {f} {d} {l} {i} s h = s .is ∙ swept-all f i d (omega arith)
 
+  -- a sweep in two: up to h, and then the rest
+  pub sweep-in-two : (f : A → A) (d : List A) {first second : List A} (h : ℕ) → first ≡ map f (midOf 0 (h - 0) d)
+      → second ≡ map f (midOf h (length (putMid 0 (h - 0) d first) - h) (putMid 0 (h - 0) d first))
+      → h ≤ length d
+      → putMid h (length (putMid 0 (h - 0) d first) - h) (putMid 0 (h - 0) d first) second ≡ map f d
+  sweep-in-two f d {first} h p q w =
+      let front = sweep-part h (sweep-start f d) zero-le w p in
+      let long = front .long in
+      let both = sweep-part (length (putMid 0 (h - 0) d first)) front (omega arith) (omega arith) q in
+      sweep-end both (omega (arith, both .long))
+
   -- ---- a fill: the sweep that makes every element v
   abbrev pub Filling : A → List A → List A → ℕ → Type 0
   Filling v d l i = Sweeping (λ (x : A). v) d l i

@@ -118,8 +118,8 @@ fn only_pages_with_a_record_that_differs_are_stored_to() {
 
 #[test]
 fn counts_that_are_not_positive_are_not_stored_to() {
-    // From eight lines on, which are 64 bytes; the smaller tables are stored to as a whole.
-    for lines in (3..=18).map(|exponent| 1 << exponent) {
+    // From sixteen lines on, of which each half has 64 bytes; smaller tables are stored to as a whole.
+    for lines in (4..=18).map(|exponent| 1 << exponent) {
         let before: Vec<i16> = (0..4 * lines).map(|at| [EMPTY, -20, 0, -1, EMPTY][at % 5]).collect();
         let counts = Table::of(&before);
         counts.only_read(0..counts.pages());
@@ -131,14 +131,16 @@ fn counts_that_are_not_positive_are_not_stored_to() {
 }
 
 #[test]
-fn counts_before_the_first_that_is_positive_are_not_stored_to() {
-    let (mut before, first) = (vec![EMPTY; 65_536], 40_000);
-    for at in (first..before.len()).step_by(7) {
+fn counts_before_the_first_of_a_half_that_is_positive_are_not_stored_to() {
+    let mut before = vec![EMPTY; 65_536];
+    for at in (10_000..20_000).chain(40_000..65_536).step_by(7) {
         before[at] = (at % 9) as i16;
     }
     let after: Vec<i16> = before.iter().map(|&count| if count > 0 { count - 1 } else { count }).collect();
     let counts = Table::of(&before);
-    counts.only_read(0..2 * first / PAGE);
+    for (from, to) in [(0, 10_000), (32_768, 40_000)] {
+        counts.only_read(2 * from / PAGE..2 * to / PAGE);
+    }
     pass(&Table::of(&[0; 16]), &counts, 59, 60);
     assert!(counts.values() == after);
 }

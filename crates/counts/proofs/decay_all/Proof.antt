@@ -1,114 +1,73 @@
--- `counts::decay_all` meets its contract: what stands before the first part with a positive count stays, and the rest is one sweep; none
--- where there is nothing to take.
+-- `counts::decay_all` meets its contract: one half after the other, and none where there is nothing to take.
 -- Assumes nothing.
-use mathlib.Core.Path.{sym, _∙_}
-use Prim.Native.Nat.{_-_}
+use mathlib.Core.Path.{sym}
 use native.Mathlib.Omega.{arith}
-use lib.IntN.{pos}
+use Prim.Native.Nat.{_/_}
 use lib.ListN.{length}
-use lib.Signed.{leZ}
 use denote.Ref.{now}
-use Rattle.laws.proofs.Sweep.{Sweeping, sweep-start, sweep-part, sweep-skip, sweep-end, map-none, map-still}
-use Rattle.counts.proofs.Counts.{decayed-none, not-positive-same}
+use Rattle.laws.proofs.Sweep.{sweep-in-two, map-none}
+use Rattle.counts.proofs.Counts.{decayed-none}
 use Rattle.counts.specs.Counts.{decayedBy}
 use borrow.Author.Needs.{needs}
 use Rattle.counts.proofs.decay_all.Statement.{statement}
 use Rattle.counts.proofs.decay_all.Tie as tie
 
-abbrev Inv-loop : tie.InvT-loop
-Inv-loop counts points at₀ at = Sweeping (decayedBy points) counts counts at
-
-abbrev μ-loop : tie.MeasureT-loop
-μ-loop counts points at₀ at = length counts - at
-
-returns : tie.Need-returns Inv-loop μ-loop
+returns : tie.Need-returns
 returns c =
     let s = c .before in
     sym (map-none decayedBy decayed-none (s .args .points) (c .if1 .taken) (now (s .args .counts)))
 
-loop-holds : tie.Need-loop-holds Inv-loop μ-loop
-loop-holds c = sweep-start _ _
+sub-decay-from-first : tie.Need-sub-decay-from-first
+sub-decay-from-first c = search needs
 
-add-loop : tie.Need-add-loop Inv-loop μ-loop
-add-loop c = search needs
+part-decay-from-first-start : tie.Need-part-decay-from-first-start
+part-decay-from-first-start c = search needs
 
-add-none-positive : tie.Need-add-none-positive Inv-loop μ-loop
-add-none-positive c = search needs
+part-decay-from-first-end : tie.Need-part-decay-from-first-end
+part-decay-from-first-end c = search needs
 
-mul-none-positive : tie.Need-mul-none-positive Inv-loop μ-loop
-mul-none-positive c = search needs
+decay-from-first-requires : tie.Need-decay-from-first-requires
+decay-from-first-requires c κs = search needs
 
-sub-none-positive : tie.Need-sub-none-positive Inv-loop μ-loop
-sub-none-positive c = search needs
+mul-decay-from-first : tie.Need-mul-decay-from-first
+mul-decay-from-first c = search needs
 
-part-none-positive-start : tie.Need-part-none-positive-start Inv-loop μ-loop
-part-none-positive-start c = search needs
+sub-decay-from-first-2 : tie.Need-sub-decay-from-first-2
+sub-decay-from-first-2 c = search needs
 
-part-none-positive-end : tie.Need-part-none-positive-end Inv-loop μ-loop
-part-none-positive-end c = search needs
+part-decay-from-first-start-2 : tie.Need-part-decay-from-first-start-2
+part-decay-from-first-start-2 c = search needs
 
-none-positive-requires : tie.Need-none-positive-requires Inv-loop μ-loop
-none-positive-requires c κs = search needs
+part-decay-from-first-end-2 : tie.Need-part-decay-from-first-end-2
+part-decay-from-first-end-2 c = search needs
 
-add-at : tie.Need-add-at Inv-loop μ-loop
-add-at c = search needs
+decay-from-first-requires-2 : tie.Need-decay-from-first-requires-2
+decay-from-first-requires-2 c κs = search needs
 
-loop-less : tie.Need-loop-less Inv-loop μ-loop
-loop-less c = search needs
-
-loop-again : tie.Need-loop-again Inv-loop μ-loop
-loop-again c =
-    let t = c .before .before .before .before in
-    let s = t .before .before .before in
-    let still = map-still (decayedBy (s .args .points)) (λ z. leZ z (pos 0)) (pos 0) (not-positive-same (s .args .points)) _ (sym (c .before .none-positive .ensures) ∙ c .if2 .taken) in
-    sweep-skip _ (t .before .loop .inv) (omega arith) (t .loop-test .taken) still
-
-mul-decay-each : tie.Need-mul-decay-each Inv-loop μ-loop
-mul-decay-each c = search needs
-
-sub-decay-each : tie.Need-sub-decay-each Inv-loop μ-loop
-sub-decay-each c = search needs
-
-part-decay-each-start : tie.Need-part-decay-each-start Inv-loop μ-loop
-part-decay-each-start c = search needs
-
-part-decay-each-end : tie.Need-part-decay-each-end Inv-loop μ-loop
-part-decay-each-end c = search needs
-
-decay-each-requires : tie.Need-decay-each-requires Inv-loop μ-loop
-decay-each-requires c κs = search needs
-
-same-length : tie.Need-same-length Inv-loop μ-loop
+same-length : tie.Need-same-length
 same-length c = search needs
 
-returns-2 : tie.Need-returns-2 Inv-loop μ-loop
+returns-2 : tie.Need-returns-2
 returns-2 c =
-    let w = c .before in
-    let t = w .before .before in
-    sweep-end (sweep-part _ (t .before .loop .inv) (omega arith) (omega arith) (w .decay-each .ensures)) (omega arith)
+    let second = c .before in
+    let first = second .before .before .before in
+    let s = first .before .before .before in
+    let half = length (now (s .args .counts)) / 2 in
+    sweep-in-two (decayedBy (s .args .points)) (now (s .args .counts)) half (first .decay-from-first .ensures) (second .decay-from-first2 .ensures) (omega arith)
 
 pub decay-all-spec : {M : Type 1} → statement M
 decay-all-spec =
     tie.close
     (tie.spec
-    Inv-loop
-    μ-loop
     returns
-    loop-holds
-    add-loop
-    add-none-positive
-    mul-none-positive
-    sub-none-positive
-    part-none-positive-start
-    part-none-positive-end
-    none-positive-requires
-    add-at
-    loop-less
-    loop-again
-    mul-decay-each
-    sub-decay-each
-    part-decay-each-start
-    part-decay-each-end
-    decay-each-requires
+    sub-decay-from-first
+    part-decay-from-first-start
+    part-decay-from-first-end
+    decay-from-first-requires
+    mul-decay-from-first
+    sub-decay-from-first-2
+    part-decay-from-first-start-2
+    part-decay-from-first-end-2
+    decay-from-first-requires-2
     same-length
     returns-2)

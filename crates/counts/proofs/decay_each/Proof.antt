@@ -1,16 +1,14 @@
 -- `counts::decay_each` meets its contract: one sweep.
 -- Assumes nothing.
-use mathlib.Core.Path.{sym, ap, _∙_}
+use mathlib.Core.Path.{ap, _∙_}
 use Prim.Native.Nat.{_-_}
 use native.Mathlib.Omega.{arith}
 use lib.IntN.{pos}
 use lib.ListN.{length}
-use denote.Ref.{now}
 use mir.Syntax.{w16}
 use mir.ValLaws.{toZ-ofZ}
 use borrow.Author.Needs.{needs}
-use Rattle.laws.proofs.Sweep.{Sweeping, sweep-start, sweep-turn, sweep-end, map-none}
-use Rattle.counts.proofs.Counts.{decayed-none}
+use Rattle.laws.proofs.Sweep.{Sweeping, sweep-start, sweep-turn, sweep-end}
 use Rattle.counts.specs.Counts.{decayedBy}
 use Rattle.counts.proofs.decay_each.Statement.{statement}
 use Rattle.counts.proofs.decay_each.Tie as tie

@@ -1,13 +1,10 @@
 -- `records::age_each` meets its contract: one sweep.
 -- Assumes nothing.
-use mathlib.Core.Path.{sym}
 use Prim.Native.Nat.{_-_}
 use native.Mathlib.Omega.{arith}
 use lib.ListN.{length}
-use denote.Ref.{now}
 use borrow.Author.Needs.{needs}
-use Rattle.laws.proofs.Sweep.{Sweeping, sweep-start, sweep-turn, sweep-end, map-none}
-use Rattle.records.proofs.Ages.{aged-none}
+use Rattle.laws.proofs.Sweep.{Sweeping, sweep-start, sweep-turn, sweep-end}
 use Rattle.records.specs.Records.{agedBy}
 use Rattle.records.proofs.age_each.Statement.{statement}
 use Rattle.records.proofs.age_each.Tie as tie
