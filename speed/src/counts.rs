@@ -1,4 +1,4 @@
-//! Instructions and data writes, counted by callgrind: steady figures, whatever else the machine does.
+//! Instructions, stores and lines of memory written, counted by callgrind: steady figures, whatever else the machine does.
 
 use crate::boundary::{Sort, COUNTS, LARGEST, RECORDS};
 use crate::cipher;

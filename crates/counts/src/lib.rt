@@ -102,8 +102,8 @@ fn decay_each(counts: &mut [i16], points: u64)
     }
 }
 
-// Decays counts, and stores to none before the first part that has a positive one: to look at them takes half the time, and from there on
-// the sweep costs what it would without having looked.
+// Decays counts, and stores to none before the first part that has a positive one. To look is quicker than to store, and from there on the
+// sweep costs what it would without having looked.
 fn decay_from_first(counts: &mut [i16], points: u64)
     ensures { λ _. ⌜ now (counts .exit) ≡ map (decayedBy points) (now (counts .entry)) ⌝ }
 {
