@@ -50,9 +50,9 @@ struct spritgrommet_list {
     size_t length; /* in bytes */
 };
 
-/* A gateway: all that a call works on. Where it starts cold, what the tables and the clock held before does not matter. A minute boundary
- * stores to no 64 records, counted from the first, that are all 0: where the records begin at a multiple of 64 bytes, memory has the fewest
- * lines to take. */
+/* A gateway: all that a call works on. Where it starts cold, what the tables and the clock held before does not matter. Records are best
+ * lent at a multiple of 128 bytes: a minute boundary takes 128 of them at a time, from the first on, and does not store to 128 that are
+ * all 0 (which is tested, not proved). */
 struct spritgrommet {
     struct spritgrommet_settings settings;
     struct spritgrommet_list cell;  /* outside: may be infected */

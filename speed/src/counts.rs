@@ -1,6 +1,6 @@
 //! Instructions, stores and lines of memory written, counted by callgrind: steady figures, whatever else the machine does.
 
-use crate::boundary::{Sort, COUNTS, LARGEST, RECORDS};
+use crate::boundary::{sweep_some, LARGEST, PROGRAMS};
 use crate::cipher;
 use crate::judging::{self, judge_some};
 use crate::ours::{self, TIMED};
@@ -14,14 +14,11 @@ const NOTES: &str = "\
     The instructions of a run of 2n less those of n, by n; the loop around the call is in them. n is 20,000 words, or \
     20,000 packets on 4,096 records (of 40,000, whichever are judged, so that making them falls out). The ratio is another \
     program's instructions by ours: above 1.00 ours takes fewer.";
-const RECORD_NOTES: &str = "\
+const BOUNDARY_NOTES: &str = "\
     One minute boundary over 1,048,576 records, of which so many are marked, with ages 0 to 62. A store is one that the \
     processor is told to make, whether of one byte or of sixteen. A line is 64 bytes of memory, of which the table has \
-    16,384: so many are written back once the table is out of the cache, for which callgrind is given one of 65,536 bytes. The \
-    table starts where a line does.";
-const COUNT_NOTES: &str = "\
-    The same of one multiple of Dmiss over 1,048,576 counts, of which so many are positive; they have 32,768 lines of memory.";
-const DIFFERING: [usize; 4] = [0, 1, 20, 100];
+    16,384: so many are written back once the table is out of the cache, for which callgrind is given one of 65,536 bytes; a \
+    few more or less are the caller's own. The table starts where a line does.";
 
 /// Inlined, so that each program is called directly.
 #[inline(always)]
@@ -39,8 +36,7 @@ pub fn work(what: &str, numbers: &[&str]) {
         ("encrypt", 1) => encrypt_often(times, cipher::encrypt),
         ("encrypt", _) => encrypt_often(times, cipher::encrypt_in_c),
         ("judge", _) => judge_some(KINDS[which], program, times),
-        ("age", _) => RECORDS.sweep_some(which as u32, program, times),
-        _ => COUNTS.sweep_some(which as u32, program, times),
+        _ => sweep_some(which as u32, program, times),
     }
 }
 
@@ -61,8 +57,8 @@ fn counted(what: &str, numbers: [usize; 3]) -> [f64; 3] {
         let total = words("events: ").zip(words("totals: ")).find(|(name, _)| *name == event);
         total.and_then(|(_, number)| number.parse().ok()).expect("callgrind's figures lack a total")
     };
-    // What leaves the cache changed leaves it for what is read or written in its place.
-    [total("Ir"), total("Dw"), total("DLdmr") + total("DLdmw")]
+    // What leaves the cache changed leaves it for code or data that is read or written in its place.
+    [total("Ir"), total("Dw"), total("ILdmr") + total("DLdmr") + total("DLdmw")]
 }
 
 /// The same for each time, without what a run costs however often the thing is done.
@@ -78,13 +74,11 @@ fn put_rows(of: &str, what: &str, which: usize, programs: &[&str]) {
     }
 }
 
-fn put_sweeps<T>(what: &str, sort: &Sort<T>) {
-    for percent in DIFFERING {
-        for (program, (name, _)) in sort.programs.iter().enumerate() {
-            let [instructions, stores, lines] = counted_each(what, percent, program, 1);
-            let each = format!("{:.4}", instructions / LARGEST as f64);
-            row(&[&format!("{percent} %"), *name, &each, &commas(stores), &commas(lines)]);
-        }
+fn put_boundary(percent: usize) {
+    for (program, (name, _)) in PROGRAMS.iter().enumerate() {
+        let [instructions, stores, lines] = counted_each("sweep", percent, program, 1);
+        let each = format!("{:.4}", instructions / LARGEST as f64);
+        row(&[&format!("{percent} %"), *name, &each, &commas(stores), &commas(lines)]);
     }
 }
 
@@ -94,9 +88,7 @@ pub fn put_tables() {
     for (which, kind) in KINDS.iter().enumerate() {
         put_rows(&format!("judge, a packet: {}", kind.name), "judge", which, &judging::NAMES);
     }
-    let columns = ["differ", "program", "instructions an element", "stores", "lines written"];
-    head("Instructions and stores of a minute boundary", RECORD_NOTES, &columns);
-    put_sweeps("age", &RECORDS);
-    head("Instructions and stores of a multiple of Dmiss", COUNT_NOTES, &columns);
-    put_sweeps("decay", &COUNTS);
+    let columns = ["marked", "program", "instructions a record", "stores", "lines written"];
+    head("Instructions and stores of a minute boundary", BOUNDARY_NOTES, &columns);
+    [0, 1, 20, 100].into_iter().for_each(put_boundary);
 }

@@ -25,7 +25,7 @@ fn put(table: &str) {
     match table {
         "1" => permutation::put_table(),
         "2" => judging::put_tables(),
-        "3" => boundary::put_tables(),
+        "3" => boundary::put_table(),
         "4" => programs::put_table(&programs::PRINTING),
         "5" => programs::put_table(&programs::FORWARDING),
         "counts" => counts::put_tables(),

@@ -19,11 +19,11 @@ pub use spritgrommet::encrypt;
 /// Passes a time over lent tables. The answer is the number of a refusal, or 0.
 #[rustfmt::skip]
 #[inline]
-pub fn pass(set: &Settings, records: &mut [u8], tags: &[u32], counts: &mut [i16], clock: &mut u32, time: u32) -> u8 {
-    // SAFETY: each length is its slice's, and nothing is lent twice. No time changes a tag.
+pub fn pass(set: &Settings, records: &mut [u8], tags: &mut [u32], counts: &mut [i16], clock: &mut u32, time: u32) -> u8 {
+    // SAFETY: each length is its slice's, and nothing is lent twice.
     unsafe {
         raw::spritgrommet_pass(
-            *set, records.as_mut_ptr(), records.len(), tags.as_ptr().cast_mut(), tags.len(),
+            *set, records.as_mut_ptr(), records.len(), tags.as_mut_ptr(), tags.len(),
             counts.as_mut_ptr(), counts.len(), clock, time,
         )
     }

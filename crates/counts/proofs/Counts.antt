@@ -88,10 +88,6 @@ fell (suc n) z =
     let last = one-fell (times n pointLess z) in
     rw (times-more pointLess n z) (record { up-fell = omega (arith, before, last); dn-same = last .dn-same ∙ before .dn-same })
 
--- so one that is not positive stays
-pub not-positive-same : (n : ℕ) (z : ℤ) → leZ z (pos 0) ≡ true → decayedBy n z ≡ z
-not-positive-same n z e = omega (signed, fell n z, one-part z)
-
 -- no count is over 32,767, so that as many steps do what more of them do; `s` and `z` as the machine has them
 pub in-steps : (m : ℕ) {s : ℕ} {z : ℤ} → SFits w16 z → s ≡ min m 32767 → decayedBy s (toZ w16 (ofZ w16 z)) ≡ decayedBy m z
 in-steps m {s} {z} f e =

@@ -2,10 +2,6 @@
 ghost use mathlib.Core.Path.{_≡_};
 ghost use mathlib.Core.List.{map};
 ghost use Prim.Native.Nat.{min};
-ghost use lib.IntN.{pos};
-ghost use lib.ListN.{length, getD};
-ghost use lib.Signed.{leZ};
-ghost use Rattle.laws.specs.Search.{every};
 ghost use Rattle.counts.specs.Counts.{isEmpty, isBlocked, loweredBy, raisedBy, decayedBy};
 
 // Whether an entry with this count is empty: only -32,768 says so.
@@ -75,58 +71,16 @@ pub fn decayed(count: i16, points: u64) -> i16
     fallen(count, steps_of(points))
 }
 
-// The counts that are looked at together before the first is stored to: 64 bytes, which memory takes at a time.
-const PART: usize = 32;
-
-// Whether no count of a part is positive, so that all of them stay as they are.
-fn none_positive(counts: &[i16]) -> bool
-    ensures { λ r. ⌜ r ≡ every (length (now (counts .entry))) (λ k. leZ (getD (now (counts .entry)) k (pos 0)) (pos 0)) ⌝ }
-{
-    let mut none = true;
-    let mut i = 0;
-    while i < counts.len() {
-        none = (counts[i] <= 0) & none;
-        i += 1;
-    }
-    none
-}
-
-// Decays each count, and stores to each, so that the processor takes many at once.
-fn decay_each(counts: &mut [i16], points: u64)
-    ensures { λ _. ⌜ now (counts .exit) ≡ map (decayedBy points) (now (counts .entry)) ⌝ }
-{
-    let mut i = 0;
-    while i < counts.len() {
-        counts[i] = decayed(counts[i], points);
-        i += 1;
-    }
-}
-
-// Decays counts, and stores to none before the first part that has a positive one. To look is quicker than to store, and from there on the
-// sweep costs what it would without having looked.
-fn decay_from_first(counts: &mut [i16], points: u64)
-    ensures { λ _. ⌜ now (counts .exit) ≡ map (decayedBy points) (now (counts .entry)) ⌝ }
-{
-    let mut at = 0;
-    while at + PART <= counts.len() {
-        if none_positive(&counts[at..at + PART]) {
-            at += PART;
-        } else {
-            break;
-        }
-    }
-    decay_each(&mut counts[at..], points);
-}
-
-// Decays every count by so many points, each half of the table by itself, so that a positive count of one leaves the other alone. By none,
-// none is touched. As in `records::age_all`, that one function is called twice keeps the sweep out of every packet's way.
+// Decays every count by so many points. By none, none is touched.
 pub fn decay_all(counts: &mut [i16], points: u64)
     ensures { λ _. ⌜ now (counts .exit) ≡ map (decayedBy points) (now (counts .entry)) ⌝ }
 {
     if points == 0 {
         return;
     }
-    let half = counts.len() / 2;
-    decay_from_first(&mut counts[0..half], points);
-    decay_from_first(&mut counts[half..], points);
+    let mut i = 0;
+    while i < counts.len() {
+        counts[i] = decayed(counts[i], points);
+        i += 1;
+    }
 }

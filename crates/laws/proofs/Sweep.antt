@@ -1,7 +1,7 @@
 -- A loop that replaces each element of a list by its image, one store a turn, or a part of the list a turn: once i elements are done the
 -- list is `swept f i d`. For any type of element; filling a list with one value is the sweep by a constant.
 -- Assumes nothing.
-use mathlib.Core.Path.{_≡_, refl, sym, ap, subst, _∙_}
+use mathlib.Core.Path.{_≡_, refl, sym, ap, _∙_}
 use mathlib.Core.Bool.{Bool, true}
 use mathlib.Core.List.{List, [], _∷_, _++_, map}
 use Prim.Native.Nat.{ℕ, zero, suc, _+_, _-_, _≤_, _<_, zero-le, suc-le-suc}
@@ -9,7 +9,7 @@ use native.Mathlib.Omega.{arith}
 use native.Mathlib.Nat.{not-suc-le-zero, le-of-suc-le-suc, zero-add, suc-add}
 use native.Mathlib.Numerals.{add-one}
 use lib.ListN.{length, take, drop, set, getD, length-set, length-map, replicate}
-use borrow.Rule.Slice.PartMut.{midOf, putMid, put-same, same-len-mid}
+use borrow.Rule.Slice.PartMut.{midOf, putMid, same-len-mid}
 use Rattle.laws.specs.Search.{every}
 use Rattle.laws.proofs.Search.{every-at}
 
@@ -105,23 +105,8 @@ module _ {A : Type 0} where
         is = (λ j. putMid i (e - i) (s .is j) (q j)) ∙ ap (λ (x : List A). putMid i (e - i) (swept f i d) (map f (midOf i (e - i) x))) (s .is) ∙ swept-part f i (e - i) d ∙ ap (λ (k : ℕ). swept f k d) whole;
       }
 
-  -- a turn that leaves the next elements, up to e, alone: they are their own images
-  pub sweep-skip : {f : A → A} {d l : List A} {i : ℕ} (e : ℕ) → Sweeping f d l i → i ≤ e → e ≤ length l → map f (midOf i (e - i) l) ≡ midOf i (e - i) l → Sweeping f d l e
-  sweep-skip {f} {d} {l} {i} e s h g q = subst (λ (x : List A). Sweeping f d x e) (put-same i (e - i) l) (sweep-part e s h g (sym q))
-
   pub sweep-end : {f : A → A} {d l : List A} {i : ℕ} → Sweeping f d l i → length l ≤ i → l ≡ map f d
   sweep-end {f} {d} {l} {i} s h = s .is ∙ swept-all f i d (omega arith)
-
-  -- a sweep in two: up to h, and then the rest
-  pub sweep-in-two : (f : A → A) (d : List A) {first second : List A} (h : ℕ) → first ≡ map f (midOf 0 (h - 0) d)
-      → second ≡ map f (midOf h (length (putMid 0 (h - 0) d first) - h) (putMid 0 (h - 0) d first))
-      → h ≤ length d
-      → putMid h (length (putMid 0 (h - 0) d first) - h) (putMid 0 (h - 0) d first) second ≡ map f d
-  sweep-in-two f d {first} h p q w =
-      let front = sweep-part h (sweep-start f d) zero-le w p in
-      let long = front .long in
-      let both = sweep-part (length (putMid 0 (h - 0) d first)) front (omega arith) (omega arith) q in
-      sweep-end both (omega (arith, both .long))
 
   -- ---- a fill: the sweep that makes every element v
   abbrev pub Filling : A → List A → List A → ℕ → Type 0

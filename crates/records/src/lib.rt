@@ -1,7 +1,7 @@
 // Connection records: one byte each, with a mark for each direction and an age in minutes.
 ghost use mathlib.Core.Path.{_≡_};
 ghost use mathlib.Core.List.{map};
-ghost use Prim.Native.Nat.{_<_, _≤_, min};
+ghost use Prim.Native.Nat.{_+_, _<_, _≤_, min};
 ghost use lib.Dec.{eqb};
 ghost use lib.ListN.{length, getD};
 ghost use Rattle.laws.specs.Search.{every};
@@ -72,11 +72,10 @@ pub fn aged(byte: u8, minutes: u32, dconn: u8) -> u8
     older(byte, steps_of(minutes), oldest_kept(dconn))
 }
 
-// The records of a part, which is stored to or left alone as a whole. They are 64 bytes: memory takes no fewer at a time, so that the other
-// stores to a part in which one record differs cost it nothing.
-const PART: usize = 64;
+// The records of a part, which is stored to or left alone as a whole: two of the lines, of 64 bytes each, that memory takes at a time.
+const PART: usize = 128;
 
-// Whether every record of a part is 0, as which alone a record stays what it is at a minute boundary.
+// Whether every record of a part is 0. Only a record that is 0 stays what it is at a minute boundary.
 fn all_zero(records: &[u8]) -> bool
     ensures { λ r. ⌜ r ≡ every (length (now (records .entry))) (λ slot. eqb (getD (now (records .entry)) slot 0) 0) ⌝ }
 {
@@ -110,27 +109,29 @@ fn age_part(records: &mut [u8], minutes: u32, dconn: u8)
     age_each(records, minutes, dconn);
 }
 
-// Ages records part by part; what is left of them after the whole parts is a part too.
-fn age_parts(records: &mut [u8], minutes: u32, dconn: u8)
-    ensures { λ _. ⌜ now (records .exit) ≡ map (agedBy dconn minutes) (now (records .entry)) ⌝ }
+// Where the part that begins at a place ends: after so many records, or with the table.
+fn part_end(at: usize, length: usize) -> usize
+    requires { ⌜ at < length ⌝ }
+    ensures { λ r. ⌜ r ≡ min (at + 128) length ⌝ }
 {
-    let mut at = 0;
-    while at + PART <= records.len() {
-        age_part(&mut records[at..at + PART], minutes, dconn);
-        at += PART;
+    if length - at < PART {
+        length
+    } else {
+        at + PART
     }
-    age_part(&mut records[at..], minutes, dconn);
 }
 
-// Ages every record by so many minute boundaries: the whole parts, then what is left. By none, none is touched. Every packet comes by here;
-// that one function is called twice keeps the compiler from putting the sweep in its way (no attribute says so in this language).
+// Ages every record by so many minute boundaries, part by part. By none, none is touched.
 pub fn age_all(records: &mut [u8], minutes: u32, dconn: u8)
     ensures { λ _. ⌜ now (records .exit) ≡ map (agedBy dconn minutes) (now (records .entry)) ⌝ }
 {
     if minutes == 0 {
         return;
     }
-    let whole = records.len() / PART * PART;
-    age_parts(&mut records[0..whole], minutes, dconn);
-    age_parts(&mut records[whole..], minutes, dconn);
+    let mut at = 0;
+    while at < records.len() {
+        let end = part_end(at, records.len());
+        age_part(&mut records[at..end], minutes, dconn);
+        at = end;
+    }
 }

@@ -1,6 +1,8 @@
-//! What a time that passes boundaries does not store to (document 02, K3): the tables stand in pages of memory that may only be read,
-//! where none of their values differs afterwards. A store to such a page ends the test with a fault.
+//! What a minute boundary does not store to (document 02, K3): the records stand in pages of memory that may only be read, where none of
+//! them differs afterwards. A store to such a page ends the tests with a fault, signal 11; with `-- --test-threads=1 --nocapture` the last
+//! test named is the one.
 
+use second::samples;
 use spritgrommet::{raw, Settings};
 use std::ffi::c_void;
 use std::ops::Range;
@@ -10,7 +12,6 @@ const PAGE: usize = 4_096;
 const READ: i32 = 1;
 const WRITE: i32 = 2;
 const PRIVATE_AND_OF_NO_FILE: i32 = 0x22;
-const EMPTY: i16 = i16::MIN;
 
 extern "C" {
     fn mmap(start: *mut c_void, length: usize, access: i32, kind: i32, file: i32, offset: i64) -> *mut c_void;
@@ -18,28 +19,32 @@ extern "C" {
     fn munmap(start: *mut c_void, length: usize) -> i32;
 }
 
-/// Whole pages of memory, and a table at their start.
-struct Table<T> {
-    start: *mut T,
-    length: usize,
+/// Whole pages of memory, and a connection table in them.
+struct Records {
+    room: *mut c_void,
     bytes: usize,
+    start: *mut u8,
+    length: usize,
 }
 
-impl<T: Copy> Table<T> {
-    fn of(values: &[T]) -> Table<T> {
-        let bytes = std::mem::size_of_val(values).next_multiple_of(PAGE);
-        // SAFETY: new memory, as long as the values or longer, and aligned to a page.
-        let start = unsafe { mmap(null_mut(), bytes, READ | WRITE, PRIVATE_AND_OF_NO_FILE, -1, 0) }.cast::<T>();
-        assert_ne!(start as isize, -1, "no memory was to be had");
-        unsafe { start.copy_from_nonoverlapping(values.as_ptr(), values.len()) };
-        Table { start, length: values.len(), bytes }
+impl Records {
+    /// A table that starts so many bytes after its first page does.
+    fn after(skipped: usize, records: &[u8]) -> Records {
+        let bytes = (skipped + records.len()).next_multiple_of(PAGE);
+        // SAFETY: new memory, as long as what is skipped and the records, or longer.
+        let room = unsafe { mmap(null_mut(), bytes, READ | WRITE, PRIVATE_AND_OF_NO_FILE, -1, 0) };
+        assert_ne!(room as isize, -1, "no memory was to be had");
+        // SAFETY: all of them lie in that memory.
+        let start = unsafe { room.byte_add(skipped).cast::<u8>() };
+        unsafe { start.copy_from_nonoverlapping(records.as_ptr(), records.len()) };
+        Records { room, bytes, start, length: records.len() }
     }
 
     /// From now on these pages may only be read.
     fn only_read(&self, pages: Range<usize>) {
         assert!(pages.end * PAGE <= self.bytes);
         // SAFETY: the pages are this table's own.
-        let done = unsafe { mprotect(self.start.byte_add(pages.start * PAGE).cast(), pages.len() * PAGE, READ) };
+        let done = unsafe { mprotect(self.room.byte_add(pages.start * PAGE), pages.len() * PAGE, READ) };
         assert_eq!(done, 0, "the pages could not be protected");
     }
 
@@ -47,51 +52,56 @@ impl<T: Copy> Table<T> {
         self.bytes / PAGE
     }
 
-    fn values(&self) -> &[T] {
+    fn values(&self) -> &[u8] {
         // SAFETY: the table's own memory, which may always be read.
         unsafe { std::slice::from_raw_parts(self.start, self.length) }
     }
-}
 
-impl<T> Drop for Table<T> {
-    fn drop(&mut self) {
-        // SAFETY: the memory that `of` got, and nothing else leads there any more.
-        unsafe { munmap(self.start.cast(), self.bytes) };
+    /// Passes a time alone, with factory settings and one line of entries.
+    fn pass(&self, old: u32, new: u32) {
+        let (mut tags, mut counts, mut clock) = ([0; 4], [i16::MIN; 4], old);
+        let (tags, counts) = (tags.as_mut_ptr(), counts.as_mut_ptr());
+        // SAFETY: each length is its table's; that nothing is stored to what may only be read is what is tested.
+        let refusal = unsafe {
+            raw::spritgrommet_pass(Settings::factory(), self.start, self.length, tags, 4, counts, 4, &mut clock, new)
+        };
+        assert_eq!((refusal, clock), (0, new));
+    }
+
+    /// The same by a packet that is not ours.
+    #[rustfmt::skip]
+    fn judge(&self, old: u32, new: u32) {
+        let (mut tags, mut counts, mut clock) = ([0; 4], [i16::MIN; 4], old);
+        let packet = samples::udp(0x0A00_0001, 0x0A00_0002);
+        // SAFETY: as above; no side list has an entry.
+        let answer = unsafe {
+            raw::spritgrommet_judge(
+                Settings::factory(), [].as_ptr(), 0, [].as_ptr(), 0, self.start, self.length,
+                tags.as_mut_ptr(), 4, counts.as_mut_ptr(), 4, &mut clock, new, packet.as_ptr(), packet.len(),
+            )
+        };
+        assert_eq!((answer.refusal, answer.verdict, clock), (0, 0, new));
     }
 }
 
-/// Passes a time over the tables, with factory settings. Tags may only be read, always: no time changes one.
-fn pass(records: &Table<u8>, counts: &Table<i16>, old: u32, new: u32) {
-    let tags = Table::of(&vec![7_u32; counts.length]);
-    tags.only_read(0..tags.pages());
-    let mut clock = old;
-    // SAFETY: each length is its table's; what is stored to memory that may only be read is what is tested here.
-    let refusal = unsafe {
-        raw::spritgrommet_pass(
-            Settings::factory(),
-            records.start,
-            records.length,
-            tags.start,
-            tags.length,
-            counts.start,
-            counts.length,
-            &mut clock,
-            new,
-        )
-    };
-    assert_eq!((refusal, clock), (0, new));
+impl Drop for Records {
+    fn drop(&mut self) {
+        // SAFETY: the memory that `after` got, and nothing leads there any more.
+        unsafe { munmap(self.room, self.bytes) };
+    }
 }
 
-/// Gaps that pass a minute boundary, which the factory's Dmiss has as its multiples too: one, and 120 of them.
-const GAPS: [(u32, u32); 2] = [(59, 60), (100, 7_300)];
+/// Records that differ after one boundary, and what they are then: with a mark or both, and without one but with an age.
+const DIFFERING: [(u8, u8); 5] = [(64, 65), (128 + 9, 128 + 10), (192 + 10, 0), (63, 0), (1, 0)];
 
 #[test]
 fn records_that_are_zero_are_not_stored_to() {
     for size in (4..=20).map(|exponent| 1 << exponent) {
-        let records = Table::of(&vec![0; size]);
+        let records = Records::after(0, &vec![0; size]);
         records.only_read(0..records.pages());
-        for (old, new) in GAPS {
-            pass(&records, &Table::of(&[EMPTY; 4]), old, new);
+        for (old, new) in [(59, 60), (100, 7_300)] {
+            records.pass(old, new);
+            records.judge(old, new);
         }
         assert!(records.values().iter().all(|&record| record == 0));
     }
@@ -99,48 +109,32 @@ fn records_that_are_zero_are_not_stored_to() {
 
 #[test]
 fn only_pages_with_a_record_that_differs_are_stored_to() {
-    // Every third page has one record that differs, each at another place: a mark, both, or an age without a mark.
-    let differing = [64_u8, 128 + 9, 192 + 10, 63, 1];
-    let expected = [65, 128 + 10, 0, 0, 0];
+    // Every third page has one record that differs, each at another place.
     let (mut before, mut after) = (vec![0; 1_048_576], vec![0; 1_048_576]);
     for (number, page) in (0..before.len() / PAGE).step_by(3).enumerate() {
-        let slot = page * PAGE + number * 48 % PAGE;
-        before[slot] = differing[number % 5];
-        after[slot] = expected[number % 5];
+        let slot = page * PAGE + number * (PAGE - 1) / 85;
+        (before[slot], after[slot]) = DIFFERING[number % 5];
     }
-    let records = Table::of(&before);
+    let records = Records::after(0, &before);
     for page in (0..records.pages()).filter(|page| page % 3 != 0) {
         records.only_read(page..page + 1);
     }
-    pass(&records, &Table::of(&[EMPTY; 4]), 59, 60);
+    records.pass(59, 60);
     assert!(records.values() == after);
 }
 
 #[test]
-fn counts_that_are_not_positive_are_not_stored_to() {
-    // From sixteen lines on, of which each half has 64 bytes; smaller tables are stored to as a whole.
-    for lines in (4..=18).map(|exponent| 1 << exponent) {
-        let before: Vec<i16> = (0..4 * lines).map(|at| [EMPTY, -20, 0, -1, EMPTY][at % 5]).collect();
-        let counts = Table::of(&before);
-        counts.only_read(0..counts.pages());
-        for (old, new) in GAPS {
-            pass(&Table::of(&[0; 16]), &counts, old, new);
+fn at_most_128_records_are_stored_to_where_one_differs() {
+    // The second page begins so many times 128 records after the first record, and one record differs, the last before that edge or the
+    // first after it: a sweep that took more than 128 at once would store across the edge for some of these tables.
+    for edge in (128..PAGE).step_by(128) {
+        for (slot, other_side) in [(edge - 1, 1..3), (edge, 0..1)] {
+            let (mut before, mut after) = (vec![0; 8_192], vec![0; 8_192]);
+            (before[slot], after[slot]) = DIFFERING[edge / 128 % 5];
+            let records = Records::after(PAGE - edge, &before);
+            records.only_read(other_side);
+            records.pass(59, 60);
+            assert!(records.values() == after);
         }
-        assert!(counts.values() == before);
     }
-}
-
-#[test]
-fn counts_before_the_first_of_a_half_that_is_positive_are_not_stored_to() {
-    let mut before = vec![EMPTY; 65_536];
-    for at in (10_000..20_000).chain(40_000..65_536).step_by(7) {
-        before[at] = (at % 9) as i16;
-    }
-    let after: Vec<i16> = before.iter().map(|&count| if count > 0 { count - 1 } else { count }).collect();
-    let counts = Table::of(&before);
-    for (from, to) in [(0, 10_000), (32_768, 40_000)] {
-        counts.only_read(2 * from / PAGE..2 * to / PAGE);
-    }
-    pass(&Table::of(&[0; 16]), &counts, 59, 60);
-    assert!(counts.values() == after);
 }

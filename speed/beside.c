@@ -1,0 +1,91 @@
+/* A minute boundary of several archives in one program, in turns over the same records: what a change made of it. `speed/beside` builds
+ * and runs it. Arguments: a name and a shared library for each archive. Output: a table in Markdown. */
+#include "spritgrommet.h"
+#include <dlfcn.h>
+#include <stdio.h>
+#include <stdlib.h>
+#include <string.h>
+#include <time.h>
+
+enum { ROUNDS = 41, MOST_ARCHIVES = 8, LARGEST = 1 << 20, LINE = 64 };
+
+typedef uint8_t (*pass_function)(struct spritgrommet_settings, uint8_t *, size_t, uint32_t *, size_t, int16_t *, size_t, uint32_t *,
+                                 uint32_t);
+
+/* How many records, how many in a thousand are marked, and whether the table is out of the caches at each boundary. */
+struct trial {
+    size_t records;
+    int marked;
+    int is_cold;
+};
+
+static const struct trial TRIALS[] = {
+    {16, 1000, 0},       {4096, 1000, 0},    {LARGEST, 0, 0},   {LARGEST, 1, 0},  {LARGEST, 10, 0},  {LARGEST, 50, 0},   {LARGEST, 200, 0},
+    {LARGEST, 1000, 0},  {LARGEST, 0, 1},    {LARGEST, 1, 1},   {LARGEST, 10, 1}, {LARGEST, 50, 1},  {LARGEST, 200, 1},  {LARGEST, 1000, 1},
+};
+
+static double seconds(void) {
+    struct timespec now;
+    clock_gettime(CLOCK_MONOTONIC, &now);
+    return (double)now.tv_sec + 1e-9 * (double)now.tv_nsec;
+}
+
+static int by_size(const void *a, const void *b) {
+    double x = *(const double *)a, y = *(const double *)b;
+    return (x > y) - (x < y);
+}
+
+/* Marked records with ages 0 to 62, and the rest 0. */
+static void fill(uint8_t *records, const struct trial *trial) {
+    srandom(3);
+    for (size_t slot = 0; slot < trial->records; slot++)
+        records[slot] = random() % 1000 < trial->marked ? (uint8_t)(64 * (1 + random() % 3) + random() % 63) : 0;
+}
+
+/* Nanoseconds a record, over so many boundaries, one to a call. */
+static double round_of(pass_function pass, uint8_t *records, const struct trial *trial) {
+    const int times = trial->records < 65536 ? 32 : 8;
+    const struct spritgrommet_settings settings = {{0}, 10, -20, 3600, 62};
+    uint32_t tags[4] = {0}, clock = 0;
+    int16_t counts[4] = {-32768, -32768, -32768, -32768};
+    double taken = 0;
+    for (int time = 0; time < times; time++) {
+        for (size_t slot = 0; trial->is_cold && slot < trial->records; slot += LINE) __builtin_ia32_clflush(records + slot);
+        __builtin_ia32_mfence();
+        double start = seconds();
+        uint8_t refusal = pass(settings, records, trial->records, tags, 4, counts, 4, &clock, clock + 60);
+        taken += seconds() - start;
+        if (refusal != 0) exit(1);
+    }
+    return taken / times / (double)trial->records * 1e9;
+}
+
+static void put_rows(const struct trial *trial, int archives, pass_function *passes, char **words) {
+    static double times[MOST_ARCHIVES][ROUNDS];
+    static _Alignas(LINE) uint8_t before[LARGEST], records[LARGEST];
+    fill(before, trial);
+    for (int turn = 0; turn < ROUNDS; turn++) {
+        for (int which = 0; which < archives; which++) {
+            memcpy(records, before, trial->records);
+            times[which][turn] = round_of(passes[which], records, trial);
+        }
+    }
+    for (int which = 0; which < archives; which++) qsort(times[which], ROUNDS, sizeof(double), by_size);
+    for (int which = 0; which < archives; which++)
+        printf("| %zu | %.1f %% | %s | %s | %.4f (%.4f to %.4f) | %.2f |\n", trial->records, trial->marked / 10.0,
+               trial->is_cold ? "cold" : "warm", words[1 + 2 * which], times[which][ROUNDS / 2], times[which][0],
+               times[which][ROUNDS - 1], times[which][ROUNDS / 2] / times[0][ROUNDS / 2]);
+}
+
+int main(int count, char **words) {
+    pass_function passes[MOST_ARCHIVES];
+    int archives = (count - 1) / 2 < MOST_ARCHIVES ? (count - 1) / 2 : MOST_ARCHIVES;
+    for (int which = 0; which < archives; which++) {
+        void *library = dlopen(words[2 + 2 * which], RTLD_NOW | RTLD_LOCAL);
+        if (!library) return fprintf(stderr, "%s\n", dlerror()), 1;
+        *(void **)&passes[which] = dlsym(library, "spritgrommet_pass");
+    }
+    puts("| records | marked | caches | archive | ns a record | by the first |\n|---|---|---|---|---|---|");
+    for (size_t at = 0; at < sizeof TRIALS / sizeof *TRIALS; at++) put_rows(&TRIALS[at], archives, passes, words);
+    return 0;
+}
