@@ -51,8 +51,8 @@ struct spritgrommet_list {
 };
 
 /* A gateway: all that a call works on. Where it starts cold, what the tables and the clock held before does not matter. Records are best
- * lent at a multiple of 128 bytes: a minute boundary takes 128 of them at a time, from the first on, and does not store to 128 that are
- * all 0 (which is tested, not proved). */
+ * lent at a multiple of 64 bytes: a minute boundary takes 128 of them at a time, from the first on, or all of a smaller table, and does not
+ * store to those where all of them are 0 (which is tested, not proved). */
 struct spritgrommet {
     struct spritgrommet_settings settings;
     struct spritgrommet_list cell;  /* outside: may be infected */

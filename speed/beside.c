@@ -20,8 +20,9 @@ struct trial {
 };
 
 static const struct trial TRIALS[] = {
-    {16, 1000, 0},       {4096, 1000, 0},    {LARGEST, 0, 0},   {LARGEST, 1, 0},  {LARGEST, 10, 0},  {LARGEST, 50, 0},   {LARGEST, 200, 0},
-    {LARGEST, 1000, 0},  {LARGEST, 0, 1},    {LARGEST, 1, 1},   {LARGEST, 10, 1}, {LARGEST, 50, 1},  {LARGEST, 200, 1},  {LARGEST, 1000, 1},
+    {16, 0, 0},       {16, 1000, 0},    {4096, 0, 0},     {4096, 1000, 0},   {LARGEST, 0, 0},   {LARGEST, 1, 0},
+    {LARGEST, 5, 0},  {LARGEST, 10, 0}, {LARGEST, 50, 0}, {LARGEST, 200, 0}, {LARGEST, 1000, 0}, {LARGEST, 0, 1},
+    {LARGEST, 1, 1},  {LARGEST, 5, 1},  {LARGEST, 10, 1}, {LARGEST, 50, 1},  {LARGEST, 200, 1},  {LARGEST, 1000, 1},
 };
 
 static double seconds(void) {
@@ -42,32 +43,40 @@ static void fill(uint8_t *records, const struct trial *trial) {
         records[slot] = random() % 1000 < trial->marked ? (uint8_t)(64 * (1 + random() % 3) + random() % 63) : 0;
 }
 
-/* Nanoseconds a record, over so many boundaries, one to a call. */
-static double round_of(pass_function pass, uint8_t *records, const struct trial *trial) {
-    const int times = trial->records < 65536 ? 32 : 8;
+/* So many minute boundaries, one to a call. */
+static void pass_minutes(pass_function pass, uint8_t *records, size_t length, uint32_t *clock, int minutes) {
     const struct spritgrommet_settings settings = {{0}, 10, -20, 3600, 62};
-    uint32_t tags[4] = {0}, clock = 0;
+    uint32_t tags[4] = {0};
     int16_t counts[4] = {-32768, -32768, -32768, -32768};
+    for (int minute = 0; minute < minutes; minute++)
+        if (pass(settings, records, length, tags, 4, counts, 4, clock, *clock + 60) != 0) exit(1);
+}
+
+/* Nanoseconds a record: of warm ones over all boundaries, of cold ones over each by itself. */
+static double round_of(pass_function pass, uint8_t *records, const struct trial *trial) {
+    const int minutes = trial->records < 65536 ? 32 : 8, at_once = trial->is_cold ? 1 : minutes;
+    uint32_t clock = 0;
     double taken = 0;
-    for (int time = 0; time < times; time++) {
+    for (int minute = 0; minute < minutes; minute += at_once) {
         for (size_t slot = 0; trial->is_cold && slot < trial->records; slot += LINE) __builtin_ia32_clflush(records + slot);
         __builtin_ia32_mfence();
         double start = seconds();
-        uint8_t refusal = pass(settings, records, trial->records, tags, 4, counts, 4, &clock, clock + 60);
+        pass_minutes(pass, records, trial->records, &clock, at_once);
         taken += seconds() - start;
-        if (refusal != 0) exit(1);
     }
-    return taken / times / (double)trial->records * 1e9;
+    return taken / minutes / (double)trial->records * 1e9;
 }
 
 static void put_rows(const struct trial *trial, int archives, pass_function *passes, char **words) {
     static double times[MOST_ARCHIVES][ROUNDS];
-    static _Alignas(LINE) uint8_t before[LARGEST], records[LARGEST];
+    static _Alignas(LINE) uint8_t before[LARGEST], records[LARGEST], first[LARGEST];
     fill(before, trial);
     for (int turn = 0; turn < ROUNDS; turn++) {
         for (int which = 0; which < archives; which++) {
             memcpy(records, before, trial->records);
             times[which][turn] = round_of(passes[which], records, trial);
+            if (which == 0) memcpy(first, records, trial->records);
+            if (memcmp(first, records, trial->records) != 0) exit((fprintf(stderr, "%s leaves other records\n", words[1 + 2 * which]), 1));
         }
     }
     for (int which = 0; which < archives; which++) qsort(times[which], ROUNDS, sizeof(double), by_size);
@@ -79,11 +88,12 @@ static void put_rows(const struct trial *trial, int archives, pass_function *pas
 
 int main(int count, char **words) {
     pass_function passes[MOST_ARCHIVES];
-    int archives = (count - 1) / 2 < MOST_ARCHIVES ? (count - 1) / 2 : MOST_ARCHIVES;
+    int archives = (count - 1) / 2;
+    if (archives > MOST_ARCHIVES) return fprintf(stderr, "at most %d archives\n", MOST_ARCHIVES), 1;
     for (int which = 0; which < archives; which++) {
         void *library = dlopen(words[2 + 2 * which], RTLD_NOW | RTLD_LOCAL);
-        if (!library) return fprintf(stderr, "%s\n", dlerror()), 1;
-        *(void **)&passes[which] = dlsym(library, "spritgrommet_pass");
+        *(void **)&passes[which] = library ? dlsym(library, "spritgrommet_pass") : NULL;
+        if (!passes[which]) return fprintf(stderr, "%s\n", dlerror()), 1;
     }
     puts("| records | marked | caches | archive | ns a record | by the first |\n|---|---|---|---|---|---|");
     for (size_t at = 0; at < sizeof TRIALS / sizeof *TRIALS; at++) put_rows(&TRIALS[at], archives, passes, words);

@@ -23,8 +23,8 @@ const NOTES: &str = "\
     records are marked at random with ages 0 to 62, the rest are 0; so the tables are warm. Of the marked ones a quarter \
     expire during the round. Tables below 65,536 records stand one behind the other in so many bytes, and are gone over in \
     turn. Dconn 62, Dmiss 3,600, one line of entries. Plain Rust stores to every record, as ours did before K3, when it was a \
-    tenth faster than ours; by parts, which is a loop alone, it leaves 128 of them alone where all are 0, as ours does. Both \
-    are called too, once a table. memcpy copies the same bytes elsewhere, warm as well.";
+    tenth faster than ours from 4,096 records on; by parts, which is a loop alone, it leaves 128 of them alone where all are \
+    0, as ours does. Both are called too, once a table. memcpy copies the same bytes elsewhere, warm as well.";
 
 /// Who takes a table over a boundary.
 pub const PROGRAMS: [(&str, fn(&mut [u8])); 3] =
