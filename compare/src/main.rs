@@ -1,5 +1,7 @@
 //! Makes captures from seeds and holds what programs do with them against each other: the commands.
 
+mod blocks;
+mod brief;
 mod capture;
 mod counts;
 mod damage;
@@ -11,14 +13,18 @@ mod forwarded;
 mod frames;
 mod judge;
 mod passing;
+mod questions;
 mod random;
 mod report;
 mod run;
 mod traffic;
 mod walk;
+mod why;
 
+use blocks::Blocks;
 use capture::{Order, ORDERS};
 use counts::Counts;
+use damage::Specimen;
 use finding::Examiner;
 use flow::Flow;
 use forwarded::Forwarders;
@@ -27,13 +33,16 @@ use report::Report;
 use std::io::{self, Write};
 use std::process::ExitCode;
 use walk::Amount;
+use why::{Asked, Whys};
 
 const USAGE: &str = "usage:
   compare make SEED RECORDS [little|big]
   compare all FIRST SECOND [--seeds N] [--records N]
   compare one FIRST SECOND FILE..
   compare forwarded FORWARDED SECOND_FORWARDED VERDICTS SECOND [--seeds N] [--records N]
-  compare forwarded-one FORWARDED SECOND_FORWARDED VERDICTS SECOND FILE..";
+  compare forwarded-one FORWARDED SECOND_FORWARDED VERDICTS SECOND FILE..
+  compare why WHY SECOND_WHY VERDICTS [--seeds N] [--records N]
+  compare why-one WHY SECOND_WHY VERDICTS FILE..";
 
 /// Status 0 when all passed, 1 when something failed, 2 when the command could not be carried out.
 fn main() -> ExitCode {
@@ -56,13 +65,19 @@ fn carry_out(words: &[&str]) -> Result<bool, String> {
     match words {
         ["make", seed, records] => make(number(seed)?, record_count(records)?, None),
         ["make", seed, records, order] => make(number(seed)?, record_count(records)?, Some(byte_order(order)?)),
-        ["all", first, second, options @ ..] => all(&Judge { first, second }, &amount(options)?),
+        ["all", first, second, options @ ..] => all(&Judge { first, second }, &amount(options, 20_000)?),
         ["one", first, second, files @ ..] if !files.is_empty() => one(&Judge { first, second }, files),
         ["forwarded", forwarded, second_forwarded, verdicts, second, options @ ..] => {
-            forwarded_all(&Forwarders { forwarded, second_forwarded, verdicts, second }, &amount(options)?)
+            forwarded_all(&Forwarders { forwarded, second_forwarded, verdicts, second }, &amount(options, 20_000)?)
         }
         ["forwarded-one", forwarded, second_forwarded, verdicts, second, files @ ..] if !files.is_empty() => {
             one(&Forwarders { forwarded, second_forwarded, verdicts, second }, files)
+        }
+        ["why", why, second_why, verdicts, options @ ..] => {
+            why_all(&Asked(Whys { why, second_why, verdicts }), &amount(options, 5_000)?)
+        }
+        ["why-one", why, second_why, verdicts, files @ ..] if !files.is_empty() => {
+            one(&Asked(Whys { why, second_why, verdicts }), files)
         }
         _ => Err(USAGE.into()),
     }
@@ -85,8 +100,9 @@ fn record_count(word: &str) -> Result<usize, String> {
     }
 }
 
-fn amount(options: &[&str]) -> Result<Amount, String> {
-    let mut amount = Amount { seeds: 12, records: 20_000 };
+/// Twelve seeds with so many records, unless the options say something else.
+fn amount(options: &[&str], records: usize) -> Result<Amount, String> {
+    let mut amount = Amount { seeds: 12, records };
     for option in options.chunks(2) {
         match option {
             ["--seeds", count] => amount.seeds = number(count)?,
@@ -128,6 +144,21 @@ fn forwarded_all(forwarders: &Forwarders, amount: &Amount) -> Result<bool, Strin
     lacking.extend(flow::lacking_together(&sum.counts));
     report::row("totals", "", &sum, "");
     report.add_vacuity(&lacking, flow::SHOWN_BY_FLOW);
+    Ok(report.finish())
+}
+
+/// Without an argument on all captures; asked for records on those of the seeds, and on some that end too soon.
+fn why_all(asked: &Asked, amount: &Amount) -> Result<bool, String> {
+    let mut report = Report::new::<Blocks>();
+    let from_seeds = walk::seeds(asked, amount, &mut report)?.sum;
+    let seeds = from_seeds.counts.clone();
+    let mut sum = from_seeds.with(walk::damaged(&asked.0, &mut report)?);
+    for order in ORDERS {
+        let some: Vec<Specimen> = damage::prefixes(order).into_iter().step_by(60).collect();
+        sum = sum.with(walk::family(asked, "asked, prefixes", &order.to_string(), &some, &mut report)?);
+    }
+    report::row("totals", "", &sum, "");
+    report.add_vacuity(&blocks::lacking(&seeds, &sum.counts), blocks::SHOWN_BY_BLOCKS);
     Ok(report.finish())
 }
 

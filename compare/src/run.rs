@@ -17,18 +17,18 @@ pub fn two_at_a_time<T: Sync, A: Send>(work: &[T], answer: impl Fn(&T) -> A + Sy
 
 /// What it prints and how it ends. What it says on standard error is its own affair.
 pub fn run(program: &str, capture: &[u8]) -> Result<Output, String> {
-    run_with(program, capture, Stdio::null())
+    run_with(program, &[], capture, Stdio::null())
 }
 
-/// The same, and what it says on standard error.
-pub fn run_and_hear(program: &str, capture: &[u8]) -> Result<Output, String> {
-    run_with(program, capture, Stdio::piped())
+/// The same of a program that may be given arguments, and what it says on standard error.
+pub fn run_and_hear(program: &str, arguments: &[String], capture: &[u8]) -> Result<Output, String> {
+    run_with(program, arguments, capture, Stdio::piped())
 }
 
-fn run_with(program: &str, capture: &[u8], standard_error: Stdio) -> Result<Output, String> {
+fn run_with(program: &str, arguments: &[String], capture: &[u8], standard_error: Stdio) -> Result<Output, String> {
     let failed = |error| format!("cannot run {program}: {error}");
     let mut command = Command::new(program);
-    command.stdin(Stdio::piped()).stdout(Stdio::piped()).stderr(standard_error);
+    command.args(arguments).stdin(Stdio::piped()).stdout(Stdio::piped()).stderr(standard_error);
     let mut child = command.spawn().map_err(failed)?;
     let input = child.stdin.take();
     thread::scope(|scope| {

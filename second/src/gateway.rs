@@ -8,7 +8,7 @@
 use crate::cipher;
 use crate::header::{self, Kind};
 use crate::refusal::Refusal;
-use crate::sides::{Side, Sides};
+use crate::sides::{Decided, Side, Sides};
 
 pub struct Settings {
     /// T, 1 to 255.
@@ -41,6 +41,13 @@ pub enum Verdict {
     Blocked = 6,
 }
 
+impl Verdict {
+    /// 5 and 6 are "dropped"; document 02's K1: "Verdict 0 counts as forwarded".
+    pub fn is_forwarded(self) -> bool {
+        !matches!(self, Verdict::Hygiene | Verdict::Blocked)
+    }
+}
+
 /// "The answer holds the verdict, the address's count after it, and the replaced address, if any".
 #[derive(Clone, Copy, Debug, PartialEq, Eq)]
 pub struct Answer {
@@ -56,9 +63,9 @@ impl Answer {
 
 /// "plant to cell seen" and "cell to plant seen". "With neither bit it is cold".
 #[derive(Clone, Copy, Debug, PartialEq, Eq)]
-struct Marks {
-    plant_to_cell: bool,
-    cell_to_plant: bool,
+pub struct Marks {
+    pub plant_to_cell: bool,
+    pub cell_to_plant: bool,
 }
 
 const COLD: Marks = Marks { plant_to_cell: false, cell_to_plant: false };
@@ -86,6 +93,22 @@ impl Entry {
             self.count
         }
     }
+}
+
+/// A packet of ours, and what it meets at its second.
+#[derive(Clone, Copy, Debug, PartialEq, Eq)]
+pub struct Met {
+    pub from: Side,
+    pub kind: Kind,
+    /// The entries of the side lists that decided on its two ends.
+    pub cell_entry: Decided,
+    pub plant_entry: Decided,
+    pub marks: Marks,
+    /// The count of the cell address.
+    pub count: i64,
+    cell: u32,
+    slot: usize,
+    line: usize,
 }
 
 /// What a verdict does to the packet's slot.
@@ -136,41 +159,19 @@ impl Gateway {
 
     /// A packet at a time, from the first byte of its IP header on.
     pub fn packet(&mut self, time: u32, given: &[u8]) -> Result<Answer, Refusal> {
-        // Refusal 4: "the time is before the gateway's clock".
-        if time < self.clock {
-            return Err(Refusal::TimeBeforeClock);
-        }
-        let packet = header::read(given)?;
+        let met = self.met(time, given)?;
         // "Clock, before every packet that isn't refused, ours or not".
         self.clock = time;
-
-        // "A packet is ours when one end is cell and the other plant." "The port is the plant
-        // end's".
-        let ends = (self.sides.side_of(packet.source), self.sides.side_of(packet.destination));
-        let (from, plant, cell, port) = match ends {
-            (Some(Side::Plant), Some(Side::Cell)) => {
-                (Side::Plant, packet.source, packet.destination, packet.source_port)
-            }
-            (Some(Side::Cell), Some(Side::Plant)) => {
-                (Side::Cell, packet.destination, packet.source, packet.destination_port)
-            }
-            _ => return Ok(Answer::NOT_OURS),
+        let Some(Met { from, kind, mut marks, count, cell, slot, line, .. }) = met else {
+            return Ok(Answer::NOT_OURS);
         };
-        let slot = cipher::slot(&self.settings.keys, plant, cell, port, self.slots.len());
-        let line = cipher::line(&self.settings.keys, cell, self.lines.len());
 
-        let mut marks = self.marks(slot);
-        let count = self.count(line, cell);
-        // "It is blocked when its count is at least T".
-        let blocked = count >= self.settings.threshold;
-        // ""Own" and "other" mean the mark of the packet's direction and of the reverse one."
-        let (own, other) = match from {
-            Side::Plant => (&mut marks.plant_to_cell, marks.cell_to_plant),
-            Side::Cell => (&mut marks.cell_to_plant, marks.plant_to_cell),
-        };
-        let (verdict, on_slot) = judge(from, blocked, *own, other, packet.kind);
+        let (verdict, on_slot) = judge_met(from, self.settings.threshold, count, marks, kind);
         if on_slot == OnSlot::AgeZeroAndOwnSet {
-            *own = true;
+            match from {
+                Side::Plant => marks.plant_to_cell = true,
+                Side::Cell => marks.cell_to_plant = true,
+            }
         }
         if on_slot != OnSlot::Untouched {
             self.slots[slot] = Slot { marks, last_forwarded: time };
@@ -188,12 +189,47 @@ impl Gateway {
         Ok(Answer { verdict, count: Some(count), replaced })
     }
 
-    /// A slot's marks at the clock. "Each minute boundary passed adds 1 to the age of each marked
-    /// record; a record whose age is then over Dconn becomes 0"; "minute boundaries are multiples
-    /// of 60"; "Each forwarded packet of ours makes the age 0, but for the untouched case."
-    fn marks(&self, slot: usize) -> Marks {
+    /// What a packet meets at a time, or nothing if it isn't ours. It is refused as the packet
+    /// would be; nothing is written, not even the clock.
+    pub fn met(&self, time: u32, given: &[u8]) -> Result<Option<Met>, Refusal> {
+        // Refusal 4: "the time is before the gateway's clock".
+        if time < self.clock {
+            return Err(Refusal::TimeBeforeClock);
+        }
+        let packet = header::read(given)?;
+
+        // "A packet is ours when one end is cell and the other plant." "The port is the plant
+        // end's".
+        let Some(source) = self.sides.decided(packet.source) else { return Ok(None) };
+        let Some(destination) = self.sides.decided(packet.destination) else { return Ok(None) };
+        let (plant_entry, cell_entry, plant, cell, port) = match (source.side, destination.side) {
+            (Side::Plant, Side::Cell) => {
+                (source, destination, packet.source, packet.destination, packet.source_port)
+            }
+            (Side::Cell, Side::Plant) => {
+                (destination, source, packet.destination, packet.source, packet.destination_port)
+            }
+            _ => return Ok(None),
+        };
+        let slot = cipher::slot(&self.settings.keys, plant, cell, port, self.slots.len());
+        let line = cipher::line(&self.settings.keys, cell, self.lines.len());
+        let (from, kind) = (source.side, packet.kind);
+        let (marks, count) = (self.marks(slot, time), self.count(line, cell, time));
+        Ok(Some(Met { from, kind, cell_entry, plant_entry, marks, count, cell, slot, line }))
+    }
+
+    /// T.
+    pub fn threshold(&self) -> i64 {
+        self.settings.threshold
+    }
+
+    /// A slot's marks at a time that is not before the clock. "Each minute boundary passed adds 1
+    /// to the age of each marked record; a record whose age is then over Dconn becomes 0"; "minute
+    /// boundaries are multiples of 60"; "Each forwarded packet of ours makes the age 0, but for the
+    /// untouched case."
+    fn marks(&self, slot: usize, now: u32) -> Marks {
         let Slot { marks, last_forwarded } = self.slots[slot];
-        let age = multiples_passed(60, last_forwarded, self.clock);
+        let age = multiples_passed(60, last_forwarded, now);
         if age > self.settings.dconn {
             COLD
         } else {
@@ -201,10 +237,10 @@ impl Gateway {
         }
     }
 
-    /// An address's count at the clock. "without one its count is 0".
-    fn count(&self, line: usize, address: u32) -> i64 {
+    /// An address's count at such a time. "without one its count is 0".
+    fn count(&self, line: usize, address: u32, now: u32) -> i64 {
         let entry = self.lines[line].iter().find(|entry| entry.address == address);
-        entry.map_or(0, |entry| entry.count_at(self.settings.dmiss, self.clock))
+        entry.map_or(0, |entry| entry.count_at(self.settings.dmiss, now))
     }
 
     /// Writes an address's count, and hands it back with the replaced address, if any.
@@ -226,6 +262,29 @@ impl Gateway {
         let smallest = ways.iter_mut().min_by_key(|entry| entry.count_at(dmiss, now));
         (count, smallest.map(|way| std::mem::replace(way, entry).address))
     }
+}
+
+/// The verdict on a packet, by T and what it meets.
+pub fn verdict(from: Side, threshold: i64, count: i64, marks: Marks, kind: Kind) -> Verdict {
+    judge_met(from, threshold, count, marks, kind).0
+}
+
+/// The same, and what the verdict does to the slot.
+fn judge_met(
+    from: Side,
+    threshold: i64,
+    count: i64,
+    marks: Marks,
+    kind: Kind,
+) -> (Verdict, OnSlot) {
+    // "It is blocked when its count is at least T".
+    let blocked = count >= threshold;
+    // ""Own" and "other" mean the mark of the packet's direction and of the reverse one."
+    let (own, other) = match from {
+        Side::Plant => (marks.plant_to_cell, marks.cell_to_plant),
+        Side::Cell => (marks.cell_to_plant, marks.plant_to_cell),
+    };
+    judge(from, blocked, own, other, kind)
 }
 
 /// The verdicts, in the order of their sentences. "2, 3 and 4 set own. Each forwarded packet of

@@ -21,8 +21,66 @@ pub struct Packet {
     pub destination_port: u16,
 }
 
+/// The two ends of a packet as its headers name them, and its protocol.
+#[derive(Clone, Copy, Debug, PartialEq, Eq)]
+pub struct Ends {
+    pub source: u32,
+    pub source_port: Option<u16>,
+    pub destination: u32,
+    pub destination_port: Option<u16>,
+    pub protocol: u8,
+}
+
+const TCP: u8 = 6;
+const UDP: u8 = 17;
+
 /// Reads the bytes given, from the first byte of the IP header on.
 pub fn read(given: &[u8]) -> Result<Packet, Refusal> {
+    let (ip, transport) = split(given)?;
+    let (kind, source_port, destination_port) = match (offset(ip), ip[9]) {
+        // "With fragment offset 0, TCP needs 20 usable bytes after the IP header"
+        (0, TCP) => match transport.first_chunk::<20>() {
+            None => return Err(Refusal::HeaderEndsTooSoon),
+            Some(tcp) => (
+                kind_of_tcp(tcp[13]),
+                u16::from_be_bytes([tcp[0], tcp[1]]),
+                u16::from_be_bytes([tcp[2], tcp[3]]),
+            ),
+        },
+        // "and UDP 8, else 5."
+        (0, UDP) if transport.len() < 8 => return Err(Refusal::HeaderEndsTooSoon),
+        (0, UDP) => (Kind::Udp, 0, 0),
+        // "Other protocols are plain. A fragment with offset above 0 is plain and has port 0."
+        _ => (Kind::Plain, 0, 0),
+    };
+    Ok(Packet {
+        source: u32::from_be_bytes([ip[12], ip[13], ip[14], ip[15]]),
+        destination: u32::from_be_bytes([ip[16], ip[17], ip[18], ip[19]]),
+        kind,
+        source_port,
+        destination_port,
+    })
+}
+
+/// The ends of a packet, refused as `read` refuses it. The ports are those that stand in a TCP or
+/// UDP header; a later fragment and other protocols have none.
+pub fn ends(given: &[u8]) -> Result<Ends, Refusal> {
+    let Packet { source, destination, .. } = read(given)?;
+    let (ip, transport) = split(given)?;
+    let protocol = ip[9];
+    let has_ports = offset(ip) == 0 && [TCP, UDP].contains(&protocol);
+    let ports = transport.first_chunk::<4>().filter(|_| has_ports);
+    Ok(Ends {
+        source,
+        source_port: ports.map(|p| u16::from_be_bytes([p[0], p[1]])),
+        destination,
+        destination_port: ports.map(|p| u16::from_be_bytes([p[2], p[3]])),
+        protocol,
+    })
+}
+
+/// The first 20 bytes of the IP header, and the usable bytes behind all of it.
+fn split(given: &[u8]) -> Result<(&[u8; 20], &[u8]), Refusal> {
     // "fewer than 20 bytes, 5;"
     let Some(ip) = given.first_chunk::<20>() else {
         return Err(Refusal::HeaderEndsTooSoon);
@@ -43,33 +101,12 @@ pub fn read(given: &[u8]) -> Result<Packet, Refusal> {
     // "then transport." "Usable bytes are the smaller of those given and the total length." Both
     // are at least the header length by now.
     let usable = given.len().min(total_length);
-    let transport = &given[header_length..usable];
+    Ok((ip, &given[header_length..usable]))
+}
 
-    let offset = u16::from_be_bytes([ip[6], ip[7]]) & 0x1fff;
-    let protocol = ip[9];
-    let (kind, source_port, destination_port) = match (offset, protocol) {
-        // "With fragment offset 0, TCP needs 20 usable bytes after the IP header"
-        (0, 6) => match transport.first_chunk::<20>() {
-            None => return Err(Refusal::HeaderEndsTooSoon),
-            Some(tcp) => (
-                kind_of_tcp(tcp[13]),
-                u16::from_be_bytes([tcp[0], tcp[1]]),
-                u16::from_be_bytes([tcp[2], tcp[3]]),
-            ),
-        },
-        // "and UDP 8, else 5."
-        (0, 17) if transport.len() < 8 => return Err(Refusal::HeaderEndsTooSoon),
-        (0, 17) => (Kind::Udp, 0, 0),
-        // "Other protocols are plain. A fragment with offset above 0 is plain and has port 0."
-        _ => (Kind::Plain, 0, 0),
-    };
-    Ok(Packet {
-        source: u32::from_be_bytes([ip[12], ip[13], ip[14], ip[15]]),
-        destination: u32::from_be_bytes([ip[16], ip[17], ip[18], ip[19]]),
-        kind,
-        source_port,
-        destination_port,
-    })
+/// The fragment offset.
+fn offset(ip: &[u8; 20]) -> u16 {
+    u16::from_be_bytes([ip[6], ip[7]]) & 0x1fff
 }
 
 /// "its flags are FIN 1, SYN 2, RST 4, ACK 16; PSH, URG, ECE and CWR are ignored."
@@ -180,5 +217,28 @@ mod tests {
         assert_eq!(kind(&six[..43]), SOON);
         let fragment = with(with(tcp((1, 1), (2, 2), 2), 7, 1), 6, 0x20);
         assert_eq!(read(&fragment).map(|p| (p.source_port, p.destination_port)), Ok((0, 0)));
+    }
+    #[test]
+    fn ends_of_packets() {
+        let (source, destination) = (0x0A00_0001, 0xC0A8_0001);
+        let told = |bytes: &[u8]| {
+            ends(bytes).map(|e| {
+                assert_eq!((e.source, e.destination), (source, destination));
+                (e.source_port, e.destination_port, e.protocol)
+            })
+        };
+        let full = tcp((source, 40_000), (destination, 80), 2);
+        assert_eq!(told(&full), Ok((Some(40_000), Some(80), 6)));
+        assert_eq!(told(&udp(source, destination)), Ok((Some(40_000), Some(53), 17)));
+        assert_eq!(told(&ip(1, source, destination, &[9; 8])), Ok((None, None, 1)));
+        assert_eq!(told(&ip(1, source, destination, &[])), Ok((None, None, 1)));
+        // A later fragment has none even where its bytes could be taken for ports.
+        assert_eq!(told(&with(full.clone(), 7, 1)), Ok((None, None, 6)));
+        assert_eq!(told(&with(udp(source, destination), 6, 0x10)), Ok((None, None, 17)));
+        // With a header of six words the ports stand four bytes later.
+        let six = with(ip(17, source, destination, &[0, 0, 0, 0, 0, 7, 0, 8, 0, 8, 0, 0]), 0, 0x46);
+        assert_eq!(told(&six), Ok((Some(7), Some(8), 17)));
+        assert_eq!(told(&full[..39]), Err(Refusal::HeaderEndsTooSoon));
+        assert_eq!(told(&with(full, 0, 0x44)), Err(Refusal::BadHeader));
     }
 }

@@ -1,6 +1,7 @@
 //! A second gateway, in plain Rust, written from documents 01 and 02 alone. It shares nothing with the proved one, which it is held against.
 #![forbid(unsafe_code)]
 
+pub mod block;
 pub mod capture;
 pub mod cipher;
 pub mod gateway;
@@ -9,3 +10,4 @@ pub mod refusal;
 pub mod replay;
 pub mod samples;
 pub mod sides;
+pub mod why;

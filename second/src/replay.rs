@@ -6,16 +6,17 @@ use std::io::{self, BufWriter, Read, Write};
 use std::process::ExitCode;
 
 use crate::capture::{Capture, Record};
-use crate::gateway::{Answer, Gateway, Settings};
+use crate::gateway::{Answer, Gateway, Settings, Verdict};
 use crate::refusal::Refusal;
 use crate::sides::Sides;
+use crate::why::{self, Explanation};
 
 /// "a cold table of 4,096 records and 256 lines."
 const RECORDS: usize = 4096;
 pub const LINES: usize = 256;
 
 /// "with factory settings", but for what K2 of document 02 says: "Callers that took ten by default
-/// name it themselves: the printing program and the writer of K1".
+/// name it themselves: the printing program and the writer of K1". So does K4's program.
 const SETTINGS: Settings = Settings { threshold: 10, ..Settings::FACTORY };
 
 /// Runs a program over all of standard input. Its status is 1 when the input could not be read or
@@ -88,13 +89,27 @@ impl<'a> Replay<'a> {
 
     /// The next record that is read whole, or nothing after the last one or after 8.
     pub fn next_judged(&mut self) -> Option<Judged<'a>> {
+        self.next_seen(|_, _, _| ()).map(|(judged, ())| judged)
+    }
+
+    /// The same with a look, before the record is judged, at its number, the gateway as it stands
+    /// then and the record.
+    pub fn next_seen<S>(
+        &mut self,
+        look: impl FnOnce(u64, &Gateway, &Record) -> S,
+    ) -> Option<(Judged<'a>, S)> {
         let number = self.end.read_whole + 1;
         match self.capture.next_record()? {
             Ok(record) => {
                 self.end.read_whole = number;
-                let answer = judge_frame(&mut self.gateway, &record);
+                // "starts cold at the first record's second": whatever its frame is.
+                let gateway = self.gateway.get_or_insert_with(|| {
+                    Gateway::cold_start(SETTINGS, Sides::PROGRAM, RECORDS, LINES, record.second)
+                });
+                let seen = look(number, gateway, &record);
+                let answer = judge_frame(gateway, &record);
                 self.end.refusals += u64::from(answer.is_err());
-                Some(Judged { number, record, answer })
+                Some((Judged { number, record, answer }, seen))
             }
             // "After 7 or 8 it stops."
             Err(refusal) => {
@@ -110,18 +125,27 @@ impl<'a> Replay<'a> {
     }
 }
 
-/// "An Ethernet frame under 14 bytes is refused by 5; EtherType other than 0x0800 prints verdict
-/// 0; neither reaches the gateway."
-fn judge_frame(gateway: &mut Option<Gateway>, record: &Record) -> Result<Answer, Refusal> {
-    // "starts cold at the first record's second": whatever its frame is.
-    let gateway = gateway.get_or_insert_with(|| {
-        Gateway::cold_start(SETTINGS, Sides::PROGRAM, RECORDS, LINES, record.second)
-    });
-    let Some((ethernet, packet)) = record.frame.split_first_chunk::<14>() else {
+fn judge_frame(gateway: &mut Gateway, record: &Record) -> Result<Answer, Refusal> {
+    match packet_of(record.frame)? {
+        Some(packet) => gateway.packet(record.second, packet),
+        None => Ok(Answer::NOT_OURS),
+    }
+}
+
+/// What K4's tool says of a record, by the gateway as it stands before the record is judged.
+pub fn explain_frame(gateway: &Gateway, record: &Record) -> Result<Explanation, Refusal> {
+    match packet_of(record.frame)? {
+        Some(packet) => why::explain(gateway, record.second, packet),
+        None => Ok(Explanation::Forwarded(Verdict::NotOurs)),
+    }
+}
+
+/// The packet of a frame that reaches the gateway. "An Ethernet frame under 14 bytes is refused by
+/// 5; EtherType other than 0x0800 prints verdict 0; neither reaches the gateway."
+fn packet_of(frame: &[u8]) -> Result<Option<&[u8]>, Refusal> {
+    let Some((ethernet, packet)) = frame.split_first_chunk::<14>() else {
         return Err(Refusal::HeaderEndsTooSoon);
     };
-    if [ethernet[12], ethernet[13]] != [0x08, 0x00] {
-        return Ok(Answer::NOT_OURS);
-    }
-    gateway.packet(record.second, packet)
+    let is_ipv4 = [ethernet[12], ethernet[13]] == [0x08, 0x00];
+    Ok(is_ipv4.then_some(packet))
 }

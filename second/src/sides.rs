@@ -14,6 +14,15 @@ pub struct Sides {
     pub plant: &'static [Entry],
 }
 
+/// The entry that decided to which side an address belongs.
+#[derive(Clone, Copy, Debug, PartialEq, Eq)]
+pub struct Decided {
+    pub side: Side,
+    /// Its number in the side's list, from 1.
+    pub number: usize,
+    pub entry: Entry,
+}
+
 /// "Address bits beyond the prefix are ignored."
 fn holds((prefix, length): Entry, address: u32) -> bool {
     u64::from(prefix ^ address) >> (32 - length.min(32)) == 0
@@ -26,13 +35,19 @@ impl Sides {
     /// "An address belongs to the list with the longest prefix that holds it; at equal length the
     /// cell list wins".
     pub fn side_of(&self, address: u32) -> Option<Side> {
+        self.decided(address).map(|decided| decided.side)
+    }
+
+    /// The entry that says so: "inside a list the first such entry".
+    pub fn decided(&self, address: u32) -> Option<Decided> {
         for length in (0..=32).rev() {
-            let held = |list: &[Entry]| list.iter().any(|e| e.1 == length && holds(*e, address));
-            if held(self.cell) {
-                return Some(Side::Cell);
-            }
-            if held(self.plant) {
-                return Some(Side::Plant);
+            let first = |side, list: &[Entry]| {
+                let index = list.iter().position(|e| e.1 == length && holds(*e, address))?;
+                Some(Decided { side, number: index + 1, entry: list[index] })
+            };
+            let found = first(Side::Cell, self.cell).or_else(|| first(Side::Plant, self.plant));
+            if found.is_some() {
+                return found;
             }
         }
         None
@@ -67,5 +82,19 @@ mod tests {
         assert_eq!(sides.side_of(0x0A01_0203), Some(Side::Cell));
         assert_eq!(sides.side_of(0x0B00_0001), Some(Side::Cell));
         assert_eq!(sides.side_of(0xFFFF_FFFF), Some(Side::Plant));
+    }
+    #[test]
+    fn the_first_entry_of_the_longest_prefix_decides() {
+        let sides = Sides {
+            cell: &[(0x0A00_0000, 8), (0x0A01_02FF, 24), (0x0A01_0200, 24), (0x0A01_0203, 32)],
+            plant: &[(0, 0), (0x0A01_0200, 24), (0xC0A8_0000, 16), (0xC0A8_0000, 16)],
+        };
+        let told = |address| sides.decided(address).map(|d| (d.side, d.number, d.entry));
+        assert_eq!(told(0x0A00_0001), Some((Side::Cell, 1, (0x0A00_0000, 8))));
+        assert_eq!(told(0x0A01_0201), Some((Side::Cell, 2, (0x0A01_02FF, 24))));
+        assert_eq!(told(0x0A01_0203), Some((Side::Cell, 4, (0x0A01_0203, 32))));
+        assert_eq!(told(0x0B00_0000), Some((Side::Plant, 1, (0, 0))));
+        assert_eq!(told(0xC0A8_0001), Some((Side::Plant, 3, (0xC0A8_0000, 16))));
+        assert_eq!(Sides::PROGRAM.decided(0x0B00_0000), None);
     }
 }

@@ -2,3 +2,5 @@
 pub mod Steps
 pub mod Refusals
 pub mod Jumps
+pub mod Explained
+pub mod Agreement

@@ -116,21 +116,21 @@ headerIn other (Unread n) = other
 headerIn other (Packet h) = h
 
 -- a reading that is refused tells the header's number, and one that is not the headers
-unread : (k : ℕ) (h : Header) (n : ℕ) → answered k h ≡ Unread n → (n ≡ k) × (n ≡ 0 → ⊥)
+pub unread : (k : ℕ) (h : Header) (n : ℕ) → answered k h ≡ Unread n → (n ≡ k) × (n ≡ 0 → ⊥)
 unread zero h n e = true-is-not-false (ap isUnread e) refl
 unread (suc k) h n e =
     let q : suc k ≡ n = ap refusalOf e in
     (sym q, λ (z : n ≡ 0). omega arith)
 
-was-read : (k : ℕ) (h found : Header) → answered k h ≡ Packet found → (k ≡ 0) × (h ≡ found)
+pub was-read : (k : ℕ) (h found : Header) → answered k h ≡ Packet found → (k ≡ 0) × (h ≡ found)
 was-read zero h found e = (refl, ap (headerIn h) e)
 was-read (suc k) h found e = true-is-not-false refl (ap isUnread e)
 
-or-else : (first : ℕ) {n k : ℕ} → first ≡ 0 → n ≡ k → n ≡ orElse first k
+pub or-else : (first : ℕ) {n k : ℕ} → first ≡ 0 → n ≡ k → n ≡ orElse first k
 or-else zero z e = e
 or-else (suc m) z e = absurd (omega arith)
 
-first-of-two : (first k : ℕ) {n : ℕ} → n ≡ first → (n ≡ 0 → ⊥) → n ≡ orElse first k
+pub first-of-two : (first k : ℕ) {n : ℕ} → n ≡ first → (n ≡ 0 → ⊥) → n ≡ orElse first k
 first-of-two zero k e ne = absurd (ne e)
 first-of-two (suc m) k e ne = e
 

@@ -1,4 +1,5 @@
-// The gateway: a cold start, a time alone, and a packet. Tables and clock are lent by the caller, and a refused call leaves them alone.
+// The gateway: a cold start, a time alone, a packet, and why a packet was dropped. Tables and clock are lent by the caller, and a refused call
+// leaves them alone.
 ghost use mathlib.Core.Bool.{false};
 ghost use mathlib.Core.Path.{_≡_};
 ghost use Prim.Native.Nat.{_<_, _≤_};
@@ -10,16 +11,20 @@ ghost use Rattle.tables.specs.Sizes.{badSizes};
 ghost use Rattle.rulings.specs.Rules.{cellOf, plantOf, document01};
 ghost use Rattle.tables.specs.Tables.{tablesOf};
 ghost use Rattle.gateway.specs.Packets.{outcomeOf, replacementOf, entered, spotOf, rulingAt, settled, ours, isOurs, isFromPlant, byDirection};
-ghost use Rattle.gateway.specs.Calls.{afterOf, stateOf, started, passed, accepted, judged};
+ghost use Rattle.gateway.specs.Calls.{afterOf, stateOf, onward, started, passed, accepted, judged};
+ghost use Rattle.gateway.specs.Why.{metIn, dropOf, whyMet, whyOurs, whyByDirection, whyOf};
 use entries::Replaced;
 use packet::Header;
 use packet::Reading;
 use places::Place;
+use reasons::Drop;
+use reasons::Explanation;
 use rulings::Ruling;
 use rulings::answers::Answer;
 use rulings::answers::Replacement;
 use settings::Settings;
 use sides::Direction;
+use verdicts::Verdict;
 
 // What a call without a packet answers: the number of its refusal, or that it is done.
 pub enum Reply {
@@ -307,6 +312,196 @@ pub fn judge(
             let destination = header.destination;
             let direction = sides::direction_between(cell, plant, source, destination);
             accept(set, header, direction, records, tags, counts, clock, time)
+        }
+    }
+}
+
+// What a packet of ours meets where it is looked up: its record, and its cell address's count.
+struct Met {
+    byte: u8,
+    count: i16,
+}
+
+// What a packet of ours would meet at a time: one record aged and one count decayed as the clock would do it. No other is looked at but
+// those of its line.
+fn met_at(
+    set: Settings,
+    spot: Spot,
+    records: &[u8],
+    tags: &[u32],
+    counts: &[i16],
+    clock: u32,
+    time: u32,
+) -> Met
+    requires { ⌜ spot .slot < length (now records) ⌝ }
+    ensures { λ r. ⌜ r ≡ metIn spot (onward 1 set time (stateOf (now (records .entry)) (now (tags .entry)) (now (counts .entry)) clock) .tables) ⌝ }
+{
+    let slot = spot.slot;
+    let minutes = tables::clock::multiples_passed(60, clock, time);
+    let multiples = tables::clock::multiples_passed(set.dmiss as u32, clock, time);
+    let count = entries::count_of(tags, counts, spot.place.line, spot.place.tag);
+    Met {
+        byte: records::aged(records[slot], minutes, set.dconn),
+        count: counts::decayed(count, multiples as u64 * POINT as u64),
+    }
+}
+
+// A packet that is dropped with a verdict: what it met, which facts would have had it forwarded, and the entries that made it ours.
+fn drop_of(
+    set: Settings,
+    cell: &[u8],
+    plant: &[u8],
+    header: Header,
+    verdict: Verdict,
+    met: Met,
+) -> Drop
+    ensures { λ r. ⌜ r ≡ dropOf (document01 set) (now (cell .entry)) (now (plant .entry)) header verdict met ⌝ }
+{
+    let transport = header.transport;
+    let kind = transport.kind;
+    let marks = records::marks_of(met.byte);
+    let of_cell = sides::winning_entry(cell, plant, header.source);
+    let of_plant = sides::winning_entry(cell, plant, header.destination);
+    Drop {
+        verdict,
+        header,
+        count: met.count,
+        marks,
+        threshold: set.threshold,
+        reported: reasons::report(set.threshold, met.count, marks, kind),
+        cell_entry: of_cell.number,
+        plant_entry: of_plant.number,
+    }
+}
+
+// Explains a packet of ours by what it meets.
+fn explain_met(
+    set: Settings,
+    cell: &[u8],
+    plant: &[u8],
+    header: Header,
+    from_plant: bool,
+    met: Met,
+) -> Explanation
+    ensures { λ r. ⌜ r ≡ whyMet (document01 set) (now (cell .entry)) (now (plant .entry)) header «from_plant» met ⌝ }
+{
+    let transport = header.transport;
+    let kind = transport.kind;
+    let blocked = counts::is_blocked(met.count, set.threshold);
+    let marks = records::marks_of(met.byte);
+    let verdict = verdicts::verdict_of(from_plant, blocked, marks, kind);
+    if verdicts::is_dropped(verdict) {
+        return Explanation::Dropped(drop_of(set, cell, plant, header, verdict, met));
+    }
+    Explanation::Forwarded(verdict)
+}
+
+// Explains a packet of ours, at a time.
+fn explain_ours(
+    set: Settings,
+    cell: &[u8],
+    plant: &[u8],
+    header: Header,
+    from_plant: bool,
+    records: &[u8],
+    tags: &[u32],
+    counts: &[i16],
+    clock: u32,
+    time: u32,
+) -> Explanation
+    requires { ⌜ badSizes (length (now records)) (length (now tags)) (length (now counts)) ≡ false ⌝ }
+    ensures { λ r. ⌜ r ≡ whyOurs document01 set (now (cell .entry)) (now (plant .entry)) header «from_plant»
+        (onward 1 set time (stateOf (now (records .entry)) (now (tags .entry)) (now (counts .entry)) clock) .tables) ⌝ }
+{
+    let spot = spot_of(set, header, from_plant, records.len(), tags.len());
+    let met = met_at(set, spot, records, tags, counts, clock, time);
+    explain_met(set, cell, plant, header, from_plant, met)
+}
+
+// Explains a packet by its direction, at a time.
+fn explain_by_direction(
+    set: Settings,
+    cell: &[u8],
+    plant: &[u8],
+    header: Header,
+    direction: Direction,
+    records: &[u8],
+    tags: &[u32],
+    counts: &[i16],
+    clock: u32,
+    time: u32,
+) -> Explanation
+    requires { ⌜ badSizes (length (now records)) (length (now tags)) (length (now counts)) ≡ false ⌝ }
+    ensures { λ r. ⌜ r ≡ whyByDirection document01 set (now (cell .entry)) (now (plant .entry)) header direction
+        (onward 1 set time (stateOf (now (records .entry)) (now (tags .entry)) (now (counts .entry)) clock) .tables) ⌝ }
+{
+    if is_ours(direction) {
+        let from_plant = is_from_plant(direction);
+        return explain_ours(
+            set,
+            cell,
+            plant,
+            header,
+            from_plant,
+            records,
+            tags,
+            counts,
+            clock,
+            time,
+        );
+    }
+    Explanation::NotOurs
+}
+
+// Why a packet that comes at a time is dropped: which of four facts, changed alone, would have had it forwarded, with the entries of the side
+// lists that decided, the count and T. Answers the refusal that the packet would get, or the verdict alone where it is not dropped. Tables,
+// clock and lists are only read, and no table is swept or copied.
+pub fn why(
+    set: Settings,
+    cell: &[u8],
+    plant: &[u8],
+    records: &[u8],
+    tags: &[u32],
+    counts: &[i16],
+    clock: &u32,
+    time: u32,
+    packet: &[u8],
+) -> Explanation
+    ensures { λ r. ⌜ r ≡ whyOf document01 set (now (cell .entry)) (now (plant .entry)) time (now (packet .entry))
+        (stateOf (now (records .entry)) (now (tags .entry)) (now (counts .entry)) (now (clock .entry))) ⌝ }
+{
+    let at = *clock;
+    let number = refusals::of_packet(
+        set,
+        records.len(),
+        tags.len(),
+        counts.len(),
+        cell,
+        plant,
+        at,
+        time,
+    );
+    if number != 0 {
+        return Explanation::Refused(number);
+    }
+    match packet::read(packet) {
+        Reading::Refused(number) => Explanation::Refused(number),
+        Reading::Packet(header) => {
+            let source = header.source;
+            let destination = header.destination;
+            let direction = sides::direction_between(cell, plant, source, destination);
+            explain_by_direction(
+                set,
+                cell,
+                plant,
+                header,
+                direction,
+                records,
+                tags,
+                counts,
+                at,
+                time,
+            )
         }
     }
 }

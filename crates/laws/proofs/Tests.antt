@@ -29,6 +29,10 @@ pub and-right : (s t : Bool) → (s && t) ≡ true → t ≡ true
 and-right true t e = e
 and-right false t e = true-is-not-false e refl
 
+pub or-yes : (s : Bool) {t : Bool} → t ≡ true → (s || t) ≡ true
+or-yes true h = refl
+or-yes false h = h
+
 pub or-left : (s t : Bool) → (s || t) ≡ false → s ≡ false
 or-left true t e = e
 or-left false t e = refl

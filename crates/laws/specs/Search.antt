@@ -1,12 +1,17 @@
--- Searching the numbers below n: whether a test passes at each of them, the first that passes it, and the foremost by a value.
+-- Searching the numbers below n: whether a test passes at each of them, or at some, the first that passes it, and the foremost by a value.
 -- Assumes nothing.
-use mathlib.Core.Bool.{Bool, true, _&&_, cond}
+use mathlib.Core.Bool.{Bool, true, false, _&&_, _||_, cond}
 use Prim.Native.Nat.{ℕ, zero, suc}
 
 -- the test passes at each number below n
 unfoldable pub every : ℕ → (ℕ → Bool) → Bool
 every zero p = true
 every (suc n) p = p n && every n p
+
+-- the test passes at some number below n
+unfoldable pub some : ℕ → (ℕ → Bool) → Bool
+some zero p = false
+some (suc n) p = p n || some n p
 
 -- the first number below n that passes the test, or n where none does
 unfoldable pub firstBelow : ℕ → (ℕ → Bool) → ℕ

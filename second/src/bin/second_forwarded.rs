@@ -6,7 +6,6 @@ use std::io::{self, Write};
 use std::process::ExitCode;
 
 use second::capture::HEADER;
-use second::gateway::Verdict;
 use second::replay::{self, End, Replay};
 
 fn main() -> ExitCode {
@@ -26,7 +25,7 @@ fn forward(input: &[u8], out: &mut dyn Write) -> io::Result<End> {
     };
     out.write_all(&HEADER)?;
     while let Some(judged) = replay.next_judged() {
-        if judged.answer.is_ok_and(|answer| is_forwarded(answer.verdict)) {
+        if judged.answer.is_ok_and(|answer| answer.verdict.is_forwarded()) {
             // The writer's refusal 8 cannot come up: what was read has no more bytes either.
             let written = judged.record.written();
             out.write_all(
@@ -35,11 +34,6 @@ fn forward(input: &[u8], out: &mut dyn Write) -> io::Result<End> {
         }
     }
     Ok(replay.end())
-}
-
-/// "Verdict 0 counts as forwarded"; 5 and 6 are "dropped".
-fn is_forwarded(verdict: Verdict) -> bool {
-    !matches!(verdict, Verdict::Hygiene | Verdict::Blocked)
 }
 
 #[cfg(test)]

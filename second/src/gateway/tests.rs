@@ -31,7 +31,7 @@ fn set_count(gateway: &mut Gateway, address: u32, count: i64) {
 
 fn count_of(gateway: &Gateway, address: u32) -> i64 {
     let line = cipher::line(&gateway.settings.keys, address, gateway.lines.len());
-    gateway.count(line, address)
+    gateway.count(line, address, gateway.clock)
 }
 
 fn the_slot(gateway: &Gateway) -> usize {
@@ -44,7 +44,7 @@ fn set_marks(gateway: &mut Gateway, marks: Marks) {
 }
 
 fn marks_of(gateway: &Gateway) -> Marks {
-    gateway.marks(the_slot(gateway))
+    gateway.marks(the_slot(gateway), gateway.clock)
 }
 
 /// Verdict, count and replaced address of a packet.

@@ -1,0 +1,2 @@
+-- What is proved of the reported facts.
+pub mod Reasons

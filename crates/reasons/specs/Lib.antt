@@ -1,0 +1,2 @@
+-- Which facts made a packet from the cell be dropped.
+pub mod Reasons
