@@ -187,11 +187,16 @@ module _ (settings : Settings) (cell plant : List ℕ) where
   plant-true h met true e = e
   plant-true h met false e = true-is-not-false (plant-passes _ _ _) e
 
+  -- what a packet of ours meets
+  abbrev metBy : Header → Bool → Tables → Met
+  metBy h fromPlant tables =
+      metIn (spotOf (document01 settings) (settings .keys) h fromPlant (length (tables .records)) (length (tables .tags))) tables
+
   by-direction : (h : Header) (d : Direction) (tables : Tables) → directionIn cell plant h ≡ d
       → AllTrue settings cell plant (whyByDirection document01 settings cell plant h d tables)
   unfolding whyByDirection whyOurs
-  by-direction h FromCell tables e = cell-true h _ e _ refl
-  by-direction h FromPlant tables e = plant-true h _ _ refl
+  by-direction h FromCell tables e = cell-true h (metBy h false tables) e _ refl
+  by-direction h FromPlant tables e = plant-true h (metBy h true tables) _ refl
   by-direction h NotOurs tables e = tt
 
   unless-refused : (number : ℕ) (told : Explanation) → AllTrue settings cell plant told → AllTrue settings cell plant (unlessRefusedBy number told)
