@@ -12,9 +12,10 @@ use borrow.Author.Tests.{lt-ltb, le-ltb, ltb-false, eq-eqb, ne-eqb}
 use Rattle.settings.specs.declared.Settings.{Settings}
 use Rattle.rulings.specs.Rules.{Rules}
 use Rattle.gateway.specs.Calls.{State, judged}
+use Rattle.gateway.specs.Why.{whyOf}
 use Rattle.frames.specs.declared.Inside.{Inside}
 use Rattle.frames.specs.declared.Inside.the-variants.{Short, Packet, Other}
-use Rattle.frames.specs.Frames.{etherType, carried, insideOf, byInside, frameJudged}
+use Rattle.frames.specs.Frames.{etherType, carried, insideOf, byInside, frameJudged, whyInside, frameExplained}
 
 isShort : Inside → Type 0
 isShort Short = Unit {0}
@@ -51,6 +52,10 @@ module _ (frame : List ℕ) where
     pub by-inside : {i : Inside} → i ≡ insideOf frame → byInside i before (judged rules settings cell plant time (carried frame) before) ≡ frameJudged rules settings cell plant time frame before
     unfolding frameJudged
     by-inside e = ap (λ (j : Inside). byInside j before (judged rules settings cell plant time (carried frame) before)) e
+
+    pub why-inside : {i : Inside} → i ≡ insideOf frame → whyInside i (whyOf rules settings cell plant time (carried frame) before) ≡ frameExplained rules settings cell plant time frame before
+    unfolding frameExplained
+    why-inside e = ap (λ (j : Inside). whyInside j (whyOf rules settings cell plant time (carried frame) before)) e
 
 -- all the bytes from a place on
 pub all-from : (at : ℕ) (l : List ℕ) → take (length l - at) (drop at l) ≡ drop at l

@@ -10,9 +10,12 @@ use Rattle.settings.specs.declared.Settings.{Settings}
 use Rattle.rulings.specs.declared.answers.Answer.{Answer}
 use Rattle.rulings.specs.declared.answers.Answer.the-variants.{Refused, NotOurs}
 use Rattle.rulings.specs.Rules.{Rules}
+use Rattle.reasons.specs.declared.Explanation.{Explanation}
+use Rattle.reasons.specs.declared.Explanation.the-variants as explanation
 use Rattle.frames.specs.declared.Inside.{Inside}
 use Rattle.frames.specs.declared.Inside.the-variants.{Short, Packet, Other}
 use Rattle.gateway.specs.Calls.{State, After, judged}
+use Rattle.gateway.specs.Why.{whyOf}
 
 -- the EtherType is the two bytes after the two addresses of six bytes each, and what the frame carries follows it
 abbrev pub etherType : List ℕ → ℕ
@@ -34,3 +37,14 @@ byInside Other before after = record { answer = NotOurs; state = before }
 unfoldable pub frameJudged : (Settings → Rules) → Settings → List ℕ → List ℕ → ℕ → List ℕ → State → After Answer
 frameJudged rules settings cell plant time frame before =
     byInside (insideOf frame) before (judged rules settings cell plant time (carried frame) before)
+
+-- document 02, K4: it "is refused exactly as the packet would be", a frame under 14 bytes by 5; and another EtherType's verdict is 0, "the
+-- verdict alone"
+abbrev pub whyInside : Inside → Explanation → Explanation
+whyInside Short why = explanation.Refused 5
+whyInside Packet why = why
+whyInside Other why = explanation.NotOurs
+
+unfoldable pub frameExplained : (Settings → Rules) → Settings → List ℕ → List ℕ → ℕ → List ℕ → State → Explanation
+frameExplained rules settings cell plant time frame before =
+    whyInside (insideOf frame) (whyOf rules settings cell plant time (carried frame) before)

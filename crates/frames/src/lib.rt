@@ -1,9 +1,10 @@
-// An Ethernet frame: what it carries is judged where that is IPv4. A frame that is too short, or carries something else, does not reach
-// the gateway.
+// An Ethernet frame: what it carries is judged, or explained, where that is IPv4. A frame that is too short, or carries something else, does
+// not reach the gateway.
 ghost use mathlib.Core.Path.{_≡_};
 ghost use Rattle.rulings.specs.Rules.{document01};
 ghost use Rattle.gateway.specs.Calls.{afterOf, stateOf};
-ghost use Rattle.frames.specs.Frames.{insideOf, frameJudged};
+ghost use Rattle.frames.specs.Frames.{insideOf, frameJudged, frameExplained};
+use reasons::Explanation;
 use rulings::answers::Answer;
 use settings::Settings;
 
@@ -51,5 +52,31 @@ pub fn judge(
             gateway::judge(set, cell, plant, records, tags, counts, clock, time, packet)
         }
         Inside::Other => Answer::NotOurs,
+    }
+}
+
+// Why the packet of a frame that comes at a time is dropped. Answers refusal 5 for a frame that is too short, that it is not ours for one that
+// carries something else than IPv4, and else what the gateway answers.
+pub fn why(
+    set: Settings,
+    cell: &[u8],
+    plant: &[u8],
+    records: &[u8],
+    tags: &[u32],
+    counts: &[i16],
+    clock: &u32,
+    time: u32,
+    frame: &[u8],
+) -> Explanation
+    ensures { λ r. ⌜ r ≡ frameExplained document01 set (now (cell .entry)) (now (plant .entry)) time (now (frame .entry))
+        (stateOf (now (records .entry)) (now (tags .entry)) (now (counts .entry)) (now (clock .entry))) ⌝ }
+{
+    match what_is_in(frame) {
+        Inside::Short => Explanation::Refused(5),
+        Inside::Packet => {
+            let packet = &frame[14..];
+            gateway::why(set, cell, plant, records, tags, counts, clock, time, packet)
+        }
+        Inside::Other => Explanation::NotOurs,
     }
 }

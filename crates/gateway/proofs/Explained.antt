@@ -61,12 +61,12 @@ module _ (settings : Settings) (time : ℕ) (records tags : List ℕ) (counts : 
       → record { byte = byte; count = left } ≡ metIn spot (then .tables)
   unfolding timePassed
   met-as spot p q b c l = λ i. record {
-        byte = (b ∙ ap (λ (m : ℕ). agedBy (settings .dconn) m (getD records (spot .slot) 0)) p ∙ sym (aged-at _ (spot .slot))) i;
-        count =
-            (l
-            ∙ (λ j. decayedBy (q j * 1) (c j))
-            ∙ sym (count-decays (multiplesPassed (settings .dmiss) clock time * 1) (spot .place .line) (spot .place .tag) tags counts)) i;
-      }
+    byte = (b ∙ ap (λ (m : ℕ). agedBy (settings .dconn) m (getD records (spot .slot) 0)) p ∙ sym (aged-at _ (spot .slot))) i;
+    count =
+        (l
+        ∙ (λ j. decayedBy (q j * 1) (c j))
+        ∙ sym (count-decays (multiplesPassed (settings .dmiss) clock time * 1) (spot .place .line) (spot .place .tag) tags counts)) i;
+  }
 
   -- it is looked up where it would be in the tables as they stand
   pub why-ours : (cell plant : List ℕ) (h : Header) (fromPlant : Bool) {spot : Spot} {met : Met} {left : Explanation}
@@ -95,15 +95,15 @@ pub drop-as : (rules : Rules) (cell plant : List ℕ) (h : Header) (verdict : Ve
       «plant_entry» = of-plant .number;
     } ≡ dropOf rules cell plant h verdict met
 drop-as rules cell plant h verdict met m c p r = λ i. record {
-      verdict = verdict;
-      header = h;
-      count = met .count;
-      marks = m i;
-      threshold = rules .threshold;
-      reported = (r ∙ ap (λ (x : Marks). reportedOn (rules .threshold) (factsOf (met .count) (x .plant) (x .cell) (h .transport .kind))) m) i;
-      «cell_entry» = c i .number;
-      «plant_entry» = p i .number;
-    }
+  verdict = verdict;
+  header = h;
+  count = met .count;
+  marks = m i;
+  threshold = rules .threshold;
+  reported = (r ∙ ap (λ (x : Marks). reportedOn (rules .threshold) (factsOf (met .count) (x .plant) (x .cell) (h .transport .kind))) m) i;
+  «cell_entry» = c i .number;
+  «plant_entry» = p i .number;
+}
 
 module _ (rules : Rules) (cell plant : List ℕ) (h : Header) (fromPlant : Bool) (met : Met) where
   abbrev met-with : Verdict

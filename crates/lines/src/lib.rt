@@ -1,5 +1,5 @@
-// The printing program's lines, put into lent room from a place on. A byte for which there is no room is left out, and the answer is the
-// place after the last byte that was put.
+// The printing program's lines, put into lent room from a place on, and what they are made of: texts, numbers and addresses. A byte for which
+// there is no room is left out, and the answer is the place after the last byte that was put.
 ghost use mathlib.Core.Path.{_≡_};
 ghost use mathlib.Core.List.{_∷_, _++_};
 ghost use lib.IntN.{natAbs};
@@ -10,7 +10,8 @@ ghost use Rattle.lines.specs.Room.{roomOf, putByte, put};
 use rulings::answers::Answer;
 use rulings::answers::Replacement;
 
-fn put_byte(room: &mut [u8], at: usize, byte: u8) -> usize
+// Puts one byte, and answers the place after it.
+pub fn put_byte(room: &mut [u8], at: usize, byte: u8) -> usize
     ensures { λ r. ⌜ roomOf r (now (room .exit)) ≡ putByte byte (roomOf at (now (room .entry))) ⌝ }
 {
     if at < room.len() {
@@ -20,8 +21,8 @@ fn put_byte(room: &mut [u8], at: usize, byte: u8) -> usize
     at
 }
 
-// A text, byte by byte.
-fn put_text(room: &mut [u8], at: usize, text: &[u8]) -> usize
+// Puts a text, byte by byte, and answers the place after it.
+pub fn put_text(room: &mut [u8], at: usize, text: &[u8]) -> usize
     ensures { λ r. ⌜ roomOf r (now (room .exit)) ≡ put (now (text .entry)) (roomOf at (now (room .entry))) ⌝ }
 {
     let mut next = at;
@@ -33,8 +34,8 @@ fn put_text(room: &mut [u8], at: usize, text: &[u8]) -> usize
     next
 }
 
-// A number's decimal digits: those of a tenth of it, and the last.
-fn put_decimal(room: &mut [u8], at: usize, number: u64) -> usize
+// Puts a number's decimal digits, those of a tenth of it and the last, and answers the place after them.
+pub fn put_decimal(room: &mut [u8], at: usize, number: u64) -> usize
     ensures { λ r. ⌜ roomOf r (now (room .exit)) ≡ put (decimal number) (roomOf at (now (room .entry))) ⌝ }
 {
     if number < 10 {
@@ -56,7 +57,8 @@ fn magnitude(count: i16) -> u64
     }
 }
 
-fn put_signed(room: &mut [u8], at: usize, count: i16) -> usize
+// Puts a count, with its sign where it is below 0, and answers the place after it.
+pub fn put_signed(room: &mut [u8], at: usize, count: i16) -> usize
     ensures { λ r. ⌜ roomOf r (now (room .exit)) ≡ put (signed count) (roomOf at (now (room .entry))) ⌝ }
 {
     if count < 0 {
@@ -74,8 +76,8 @@ fn put_part(room: &mut [u8], at: usize, part: u64) -> usize
     put_decimal(room, next, part)
 }
 
-// An address in dotted form.
-fn put_dotted(room: &mut [u8], at: usize, address: u32) -> usize
+// Puts an address in dotted form, and answers the place after it.
+pub fn put_dotted(room: &mut [u8], at: usize, address: u32) -> usize
     ensures { λ r. ⌜ roomOf r (now (room .exit)) ≡ put (dotted address) (roomOf at (now (room .entry))) ⌝ }
 {
     let next = put_decimal(room, at, (address / 16777216) as u64);

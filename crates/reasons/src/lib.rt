@@ -39,6 +39,12 @@ pub enum Explanation {
     Dropped(Drop),
 }
 
+// Whether it was asked why a packet is dropped, and what was answered.
+pub enum Asked {
+    Nothing,
+    Why(Explanation),
+}
+
 // Whether a packet from the cell is forwarded, by whether its address is blocked, its record's marks and its kind.
 fn passes(blocked: bool, marks: Marks, kind: Kind) -> bool
     ensures { λ r. ⌜ r ≡ isForwarded (verdictOf false blocked marks kind) ⌝ }

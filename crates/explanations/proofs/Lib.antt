@@ -1,0 +1,2 @@
+-- What is proved of the texts beyond the contracts.
+pub mod Filled

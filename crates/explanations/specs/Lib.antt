@@ -1,0 +1,3 @@
+-- What is put out for a record of which it is asked why.
+pub mod Values
+pub mod Explanations
