@@ -1,2 +1,3 @@
 -- What is proved of the texts beyond the contracts.
 pub mod Filled
+pub mod Short

@@ -11,11 +11,11 @@ use Rattle.capture.specs.declared.Reading.the-variants.{End, Cut, Long, Whole}
 use Rattle.capture.specs.Capture.{nextOf}
 use Rattle.capture.specs.Whole.{Course, movedTo, turn, inTurn, courseOf, bytesOf, contentIn, placed, later, laterRecord}
 use Rattle.capture.proofs.Pieces.{same-bytes, course-in-pieces}
-use Rattle.replay.specs.Replay.{recordJudged}
+use Rattle.replay.specs.Replay.{recordJudged, recordAsked}
 use Rattle.outputs.specs.declared.Output.{Output}
 use Rattle.outputs.specs.Outputs.{toldOf}
 use Rattle.endings.specs.Endings.{oneMore}
-use Rattle.feeding.specs.Whole.{Told, answered, toldNext, toldIn}
+use Rattle.feeding.specs.Whole.{Told, answered, askedIn, toldNext, toldIn}
 
 -- records, and then others
 pub then-others : (output : Output) (l : List ℕ) (first second : List Record) (t : Told)
@@ -85,7 +85,7 @@ told-anew output l [] bytes t = refl
 told-anew output l (r ∷ records) bytes t =
     ap (toldIn output l records)
     (λ i. record {
-      bytes = append-assoc bytes (t .bytes) (toldOf output (oneMore (t .records)) (contentIn l r) (answered l r t .answer)) i;
+      bytes = append-assoc bytes (t .bytes) (toldOf output (oneMore (t .records)) (contentIn l r) (answered l r t .answer) (askedIn output l r t)) i;
       records = toldNext output l r t .records;
       refusals = toldNext output l r t .refusals;
       state = toldNext output l r t .state;

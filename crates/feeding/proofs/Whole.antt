@@ -20,12 +20,12 @@ use Rattle.capture.specs.Whole.{Course, turn, inTurn, courseOf, bytesOf, conten
 use Rattle.capture.proofs.Readings.{whole-record}
 use Rattle.lines.specs.Room.{roomOf}
 use Rattle.outputs.specs.declared.Output.{Output}
-use Rattle.outputs.specs.Outputs.{toldOf, toldPut}
+use Rattle.outputs.specs.Outputs.{asksWhy, toldOf, toldPut}
 use Rattle.outputs.proofs.Whole.{Sized, told-whole, told-short}
 use Rattle.endings.specs.Endings.{oneMore}
 use Rattle.replay.specs.Replay.{stepped, byReading}
 use Rattle.feeding.specs.Feeding.{Replayed, replayedOf, toldBy, turned, toldRoom, canGoOn, fed}
-use Rattle.feeding.specs.Whole.{Told, answered, toldNext, toldIn}
+use Rattle.feeding.specs.Whole.{Told, answered, askedIn, toldNext, toldIn}
 use Rattle.feeding.proofs.Sizes.{AllSized}
 use Rattle.feeding.proofs.Cases.{goes-on, goes-no-further}
 
@@ -65,8 +65,8 @@ module _ (output : Output) (l : List ℕ) (big : Bool) (put : ℕ) (room : List 
     turned-by : (x : Reading) → nextOf l (cursor at) ≡ x
         → turned output l big (sofar t at true over)
         ≡ record {
-          page = toldBy output l (byReading (eqb (t .records) 0) l x (t .state) .answer) (sofar t at true over .page);
-          state = byReading (eqb (t .records) 0) l x (t .state) .state;
+          page = toldBy output l (byReading (asksWhy output) (eqb (t .records) 0) l x (t .state) .answer) (sofar t at true over .page);
+          state = byReading (asksWhy output) (eqb (t .records) 0) l x (t .state) .state;
         }
     unfolding turned stepped
     turned-by x e = rw e
@@ -76,14 +76,14 @@ module _ (output : Output) (l : List ℕ) (big : Bool) (put : ℕ) (room : List 
         → turned output l big (sofar t at true over) ≡ sofar (toldNext output l r t) (r .end) true over
     one-more r e fits =
         let facts = whole-record l (cursor at) r e in
-        let text : List ℕ = toldOf output (oneMore (t .records)) (contentIn l r) (answered l r t .answer) in
+        let text : List ℕ = toldOf output (oneMore (t .records)) (contentIn l r) (answered l r t .answer) (askedIn output l r t) in
         let begun : List ℕ = stored (t .bytes) put room in
         let both = length-append (t .bytes) text in
         let few : length (bytesOf l r) ≤ 2048 = omega (arith, length-take (r .end - r .from) (drop (r .from) l)) in
         let end : put + length (t .bytes) + length text ≡ put + length (t .bytes ++ text) = omega (arith, both) in
-        let placed : toldPut output (oneMore (t .records)) (contentIn l r) (answered l r t .answer) (roomOf (put + length (t .bytes)) begun)
+        let placed : toldPut output (oneMore (t .records)) (contentIn l r) (answered l r t .answer) (askedIn output l r t) (roomOf (put + length (t .bytes)) begun)
         ≡ roomOf (put + length (t .bytes ++ text)) (stored (t .bytes ++ text) put room) =
-        told-whole (put + length (t .bytes)) begun output (oneMore (t .records)) (contentIn l r) (answered l r t .answer) few
+        told-whole (put + length (t .bytes)) begun output (oneMore (t .records)) (contentIn l r) (answered l r t .answer) (askedIn output l r t) few
         (omega (arith, fits, both, stored-length (t .bytes) put room))
         ∙ (λ i. roomOf (end i) (stored-then (t .bytes) text put room fits i)) in
         turned-by (reading.Whole r) e
@@ -192,13 +192,13 @@ module _ (output : Output) (l : List ℕ) (big : Bool) (put : ℕ) (room : List 
       (none-more t at false over (no-record refl (ap isWhole e ∙ whole-is) (over-is ∙ sym (ap isLong e))))
 
   -- what a record is due has room where it is told
-  has-room : (t : Told) (at : ℕ) (r : Record) → nextOf l (cursor at) ≡ reading.Whole r → Sized output (answered l r t .answer)
+  has-room : (t : Told) (at : ℕ) (r : Record) → nextOf l (cursor at) ≡ reading.Whole r → Sized output (contentIn l r) (answered l r t .answer) (askedIn output l r t)
       → put + length (t .bytes) + toldRoom ≤ length room → put + length (toldNext output l r t .bytes) ≤ length room
   has-room t at r e sized h =
       let facts = whole-record l (cursor at) r e in
-      let text : List ℕ = toldOf output (oneMore (t .records)) (contentIn l r) (answered l r t .answer) in
+      let text : List ℕ = toldOf output (oneMore (t .records)) (contentIn l r) (answered l r t .answer) (askedIn output l r t) in
       let few : length (bytesOf l r) ≤ 2048 = omega (arith, length-take (r .end - r .from) (drop (r .from) l)) in
-      let short = told-short output (oneMore (t .records)) (contentIn l r) (answered l r t .answer) (omega arith) sized few in
+      let short = told-short output (oneMore (t .records)) (contentIn l r) (answered l r t .answer) (askedIn output l r t) (omega arith) sized few in
       omega (arith, h, short, length-append (t .bytes) text)
 
   -- what feeding comes to in so many turns, from anywhere

@@ -10,10 +10,12 @@ ghost use Rattle.feeding.specs.Feeding.{canGoOn, fed};
 use capture::Cursor;
 use capture::Record;
 use outputs::Output;
+use reasons::Asked;
 use replay::Step;
 use rulings::answers::Answer;
 
-// Room in which any line has place, and any record: the longest line has 46 bytes, and the longest record 16 and 2,048.
+// Room in which any line has place, any record and any explanation: the longest line has 46 bytes, the longest record 16 and 2,048, and no
+// explanation more than 1,464.
 const TOLD_ROOM: usize = 2064;
 
 // How far a program has come: where the next record starts among the bytes at hand, how many bytes it put out, how many records were read
@@ -79,9 +81,10 @@ fn tell(
     progress: Progress,
     read: Record,
     answer: Answer,
+    asked: Asked,
 ) -> Progress
     requires { ⌜ (read .from ≤ read .end) × (read .end ≤ length (now bytes)) ⌝ }
-    ensures { λ r. ⌜ pageOf r (now (room .exit)) ≡ told output (now (bytes .entry)) read answer (pageOf progress (now (room .entry))) ⌝ }
+    ensures { λ r. ⌜ pageOf r (now (room .exit)) ≡ told output (now (bytes .entry)) read answer asked (pageOf progress (now (room .entry))) ⌝ }
 {
     let number = endings::one_more(progress.records);
     let from = read.from;
@@ -89,7 +92,16 @@ fn tell(
     let frame = &bytes[from..end];
     let mut next = progress;
     next.at = end;
-    next.put = outputs::put_told(output, room, progress.put, number, read, frame, answer);
+    next.put = outputs::put_told(
+        output,
+        room,
+        progress.put,
+        number,
+        read,
+        frame,
+        answer,
+        asked,
+    );
     next.records = number;
     next.refusals = refusals_after(progress.refusals, answer);
     next
@@ -116,11 +128,16 @@ fn turn(
         big_endian,
     };
     let is_first = progress.records == 0;
-    match replay::next(bytes, cursor, is_first, records, tags, counts, clock) {
+    let asks = outputs::asks_why(output);
+    match replay::next(asks, bytes, cursor, is_first, records, tags, counts, clock) {
         Step::End => waits(progress),
         Step::Cut => waits(progress),
         Step::Long => stop(progress),
-        Step::Judged { read, answer } => tell(output, bytes, room, progress, read, answer),
+        Step::Judged {
+            read,
+            answer,
+            asked,
+        } => tell(output, bytes, room, progress, read, answer, asked),
     }
 }
 

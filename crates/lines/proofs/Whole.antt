@@ -61,11 +61,11 @@ InRange NotOurs = Unit {0}
 InRange (Judged verdict count None) = natAbs count ≤ 2 ^ 15
 InRange (Judged verdict count (Address address)) = (natAbs count ≤ 2 ^ 15) × (address < 2 ^ 32)
 
-signed-short : (count : ℤ) → natAbs count ≤ 2 ^ 15 → length (signed count) ≤ 6
+pub signed-short : (count : ℤ) → natAbs count ≤ 2 ^ 15 → length (signed count) ≤ 6
 signed-short (pos n) h = omega (arith, few n 4 n (omega (arith, h)))
 signed-short (negsuc n) h = omega (arith, few (suc n) 4 (suc n) (omega (arith, h)))
 
-dotted-short : (address : ℕ) → address < 2 ^ 32 → length (dotted address) ≤ 15
+pub dotted-short : (address : ℕ) → address < 2 ^ 32 → length (dotted address) ≤ 15
 dotted-short address h =
     let byte : (n : ℕ) → n < 256 → length (decimal n) ≤ 3 = λ n m. few n 2 n (omega (arith, m)) in
     let a = byte (address / 16777216) (omega (arith, h)) in
@@ -83,7 +83,7 @@ dotted-short address h =
       length-append (decimal (address / 256 % 256)) (dot ∷ decimal (address % 256)),
     )
 
-one-digit : (verdict : Verdict) → length (decimal (numberOf verdict)) ≤ 1
+pub one-digit : (verdict : Verdict) → length (decimal (numberOf verdict)) ≤ 1
 one-digit verdict = few (numberOf verdict) 0 (numberOf verdict) (small verdict)
   where
     small : (v : Verdict) → numberOf v < 10
@@ -115,7 +115,7 @@ answer-short (Judged verdict count None) h = judged-short verdict count (orDash 
 answer-short (Judged verdict count (Address address)) h =
     judged-short verdict count (dotted address) (h .0) (dotted-short address (h .1))
 
-long-number : (n : ℕ) → n < 2 ^ 64 → length (decimal n) ≤ 20
+pub long-number : (n : ℕ) → n < 2 ^ 64 → length (decimal n) ≤ 20
 long-number n h = few n 19 n (omega (arith, h))
 
 -- every line has room in 46 bytes

@@ -1,17 +1,32 @@
-// What a program that replays a capture puts out for each whole record, into lent room: a line, or the record itself where it went through.
+// What a program that replays a capture puts out for each whole record, into lent room: a line, the record itself where it went through, or
+// why it was dropped.
 ghost use mathlib.Core.Path.{_≡_};
 ghost use Rattle.rulings.specs.Answers.{forwardedTold};
 ghost use Rattle.lines.specs.Room.{roomOf};
 ghost use Rattle.capture.specs.Format.{contentOf};
-ghost use Rattle.outputs.specs.Outputs.{placeAfter, forwardedPut, toldPut, openingPut};
+ghost use Rattle.outputs.specs.Outputs.{placeAfter, forwardedPut, asksWhy, toldPut, openingPut};
 use capture::Record;
 use capture::Written;
+use reasons::Asked;
 use rulings::answers::Answer;
 
-// Which program it is: the printing one, or the one that writes what was forwarded.
+// Which program it is: the printing one, the one that writes what was forwarded, or the one that says why, of every record that was dropped
+// where its number is 0, and else of the one record with that number.
 pub enum Output {
     Lines,
     Forwarded,
+    Reasons(u64),
+}
+
+// Whether a program asks of each record why it is dropped.
+pub fn asks_why(output: Output) -> bool
+    ensures { λ r. ⌜ r ≡ asksWhy output ⌝ }
+{
+    match output {
+        Output::Lines => false,
+        Output::Forwarded => false,
+        Output::Reasons(wanted) => true,
+    }
 }
 
 // Whether an answer lets the packet through. What is not ours goes through; what is refused does not.
@@ -58,8 +73,8 @@ fn put_forwarded(room: &mut [u8], at: usize, read: Record, frame: &[u8], answer:
     at
 }
 
-// Puts what a program puts out for a whole record: its number, what its header says, its captured bytes, and what the gateway answered.
-// Answers the place after it in the room.
+// Puts what a program puts out for a whole record: its number, what its header says, its captured bytes, what the gateway answered, and what
+// it says why where that was asked. Answers the place after it in the room.
 pub fn put_told(
     output: Output,
     room: &mut [u8],
@@ -68,14 +83,18 @@ pub fn put_told(
     read: Record,
     frame: &[u8],
     answer: Answer,
+    asked: Asked,
 ) -> usize
     ensures { λ r. ⌜ roomOf r (now (room .exit))
-        ≡ toldPut output number (contentOf (read .seconds) (read .microseconds) (read .original) (now (frame .entry))) answer
+        ≡ toldPut output number (contentOf (read .seconds) (read .microseconds) (read .original) (now (frame .entry))) answer asked
         (roomOf at (now (room .entry))) ⌝ }
 {
     match output {
         Output::Lines => lines::put_line(room, at, number, answer),
         Output::Forwarded => put_forwarded(room, at, read, frame, answer),
+        Output::Reasons(wanted) => {
+            explanations::put_asked(room, at, wanted, number, read.seconds, asked)
+        }
     }
 }
 
@@ -87,5 +106,6 @@ pub fn put_opening(output: Output, room: &mut [u8], at: usize) -> usize
     match output {
         Output::Lines => at,
         Output::Forwarded => place_after(capture::put_header(room, at), at),
+        Output::Reasons(wanted) => at,
     }
 }

@@ -49,6 +49,7 @@ fn ending_goes_to(output: Output) -> i32 {
     match output {
         Output::Lines => STDOUT_FILENO,
         Output::Forwarded => STDERR_FILENO,
+        Output::Reasons(wanted) => STDOUT_FILENO,
     }
 }
 
@@ -135,6 +136,25 @@ fn run(
     stage
 }
 
+// The number of the record that alone is wanted, or 0.
+fn wanted_of(output: Output) -> u64 {
+    match output {
+        Output::Lines => 0,
+        Output::Forwarded => 0,
+        Output::Reasons(wanted) => wanted,
+    }
+}
+
+// Says that the record which alone is wanted is not among so many, where it is not.
+fn tell_missing(output: Output, records: u64) {
+    if records < wanted_of(output) {
+        io::write_all(
+            STDERR_FILENO,
+            b"why: the capture has no whole record with that number\n",
+        );
+    }
+}
+
 // Says how the capture ended: the record that was refused by 8, if one was, how many were read whole and how many refusals there were.
 fn end(output: Output, room: &mut [u8], stage: Stage) {
     let progress = stage.progress;
@@ -142,6 +162,7 @@ fn end(output: Output, room: &mut [u8], stage: Stage) {
         let is_refused = progress.is_over | (0 < stage.held);
         let put = endings::put_ending(room, 0, progress.records, progress.refusals, is_refused);
         write(ending_goes_to(output), room, put);
+        tell_missing(output, progress.records);
     }
 }
 
@@ -179,6 +200,7 @@ pub fn replay(output: Output) {
         Opened::Refused(number) => {
             let put = endings::put_refused_header(&mut room, 0, number);
             write(ending_goes_to(output), &room, put);
+            tell_missing(output, 0);
         }
         Opened::Open(cursor) => replay_records(output, cursor.big_endian, &mut room),
     }

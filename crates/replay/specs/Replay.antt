@@ -1,4 +1,5 @@
--- Document 01, "The printing program": how its gateway is set up, and what becomes of a capture's records.
+-- Document 01, "The printing program": how its gateway is set up, and what becomes of a capture's records; and document 02, K4: what is
+-- answered where it is asked why.
 -- Assumes nothing.
 use mathlib.Core.Bool.{Bool, cond}
 use mathlib.Core.List.{List, [], _∷_}
@@ -11,11 +12,14 @@ use Rattle.capture.specs.declared.Reading.{Reading}
 use Rattle.capture.specs.declared.Reading.the-variants as reading
 use Rattle.capture.specs.Capture.{nextOf}
 use Rattle.capture.specs.Whole.{bytesOf}
+use Rattle.reasons.specs.declared.Asked.{Asked}
+use Rattle.reasons.specs.declared.Asked.the-variants.{Nothing, Why}
 use Rattle.rulings.specs.declared.answers.Answer.{Answer}
 use Rattle.rulings.specs.Answers.{refusalTold}
 use Rattle.rulings.specs.Rules.{document01}
 use Rattle.gateway.specs.Calls.{State, After, started}
-use Rattle.frames.specs.Frames.{frameJudged}
+use Rattle.frames.specs.Frames.{frameJudged, frameExplained}
+use Rattle.replay.specs.declared.Judgement.{Judgement}
 use Rattle.replay.specs.declared.Step.{Step}
 use Rattle.replay.specs.declared.Step.the-variants.{End, Cut, Long, Judged}
 
@@ -47,23 +51,39 @@ unfoldable pub recordJudged : Bool → List ℕ → Record → State → After A
 recordJudged first bytes r before =
     frameJudged document01 programSettings cellList plantList (r .seconds) (bytesOf bytes r) (startedFirst first (r .seconds) before)
 
--- a record that is judged, with what was answered
-abbrev pub judgedStep : Record → After Answer → After Step
-judgedStep r after = record { answer = Judged r (after .answer); state = after .state }
+-- "The tool judges by the tables as they would stand at the packet's second": of a frame, where it is asked
+unfoldable pub askedOf : Bool → ℕ → List ℕ → State → Asked
+askedOf asks time frame before = cond asks (Why (frameExplained document01 programSettings cellList plantList time frame before)) Nothing
 
-abbrev pub byReading : Bool → List ℕ → Reading → State → After Step
-byReading first bytes reading.End before = record { answer = End; state = before }
-byReading first bytes reading.Cut before = record { answer = Cut; state = before }
-byReading first bytes reading.Long before = record { answer = Long; state = before }
-byReading first bytes (reading.Whole r) before = judgedStep r (recordJudged first bytes r before)
+-- of a whole record, before it is judged
+abbrev pub recordAsked : Bool → Bool → List ℕ → Record → State → Asked
+recordAsked asks first bytes r before = askedOf asks (r .seconds) (bytesOf bytes r) (startedFirst first (r .seconds) before)
+
+-- what a whole record gets
+abbrev pub judgementOf : Bool → Bool → List ℕ → Record → State → After Judgement
+judgementOf asks first bytes r before =
+    record {
+      answer = record { answer = recordJudged first bytes r before .answer; asked = recordAsked asks first bytes r before };
+      state = recordJudged first bytes r before .state;
+    }
+
+-- a record that is judged, with what it got
+abbrev pub judgedStep : Record → After Judgement → After Step
+judgedStep r after = record { answer = Judged r (after .answer .answer) (after .answer .asked); state = after .state }
+
+abbrev pub byReading : Bool → Bool → List ℕ → Reading → State → After Step
+byReading asks first bytes reading.End before = record { answer = End; state = before }
+byReading asks first bytes reading.Cut before = record { answer = Cut; state = before }
+byReading asks first bytes reading.Long before = record { answer = Long; state = before }
+byReading asks first bytes (reading.Whole r) before = judgedStep r (judgementOf asks first bytes r before)
 
 -- one step: the record at the cursor, the first one or a further one
-unfoldable pub stepped : Bool → List ℕ → Cursor → State → After Step
-stepped first bytes cursor before = byReading first bytes (nextOf bytes cursor) before
+unfoldable pub stepped : Bool → Bool → List ℕ → Cursor → State → After Step
+stepped asks first bytes cursor before = byReading asks first bytes (nextOf bytes cursor) before
 
 -- the paper's number for each case of a step: that of its refusal, and 0 for what is not refused
 abbrev pub stepRefusal : Step → ℕ
 stepRefusal End = 0
 stepRefusal Cut = 8
 stepRefusal Long = 8
-stepRefusal (Judged r answer) = refusalTold answer
+stepRefusal (Judged r answer asked) = refusalTold answer

@@ -3,10 +3,11 @@ ghost use mathlib.Core.Path.{_≡_};
 ghost use Prim.Native.Nat.{_≤_};
 ghost use lib.ListN.{length};
 ghost use Rattle.gateway.specs.Calls.{afterOf, stateOf};
-ghost use Rattle.replay.specs.Replay.{programSettings, startedFirst, recordJudged, stepped};
+ghost use Rattle.replay.specs.Replay.{programSettings, startedFirst, recordJudged, askedOf, recordAsked, judgementOf, stepped};
 use capture::Cursor;
 use capture::Reading;
 use capture::Record;
+use reasons::Asked;
 use rulings::answers::Answer;
 use settings::Settings;
 
@@ -17,12 +18,23 @@ const PLANT: [u8; 5] = [192, 168, 0, 0, 16];
 // The programs' own threshold, whatever the factory's is: what they made of a capture they make of it still.
 const T: u16 = 10;
 
-// What one step answers: that no byte is left, that a record is cut off or too long, or a whole record and what the gateway answered.
+// What one step answers: that no byte is left, that a record is cut off or too long, or a whole record, what the gateway answered, and what it
+// answered to the question why where that was asked.
 pub enum Step {
     End,
     Cut,
     Long,
-    Judged { read: Record, answer: Answer },
+    Judged {
+        read: Record,
+        answer: Answer,
+        asked: Asked,
+    },
+}
+
+// What a whole record gets: the gateway's answer, and its answer to the question why where that was asked.
+struct Judgement {
+    answer: Answer,
+    asked: Asked,
 }
 
 // The settings of every program that replays a capture: the factory's but for T.
@@ -51,8 +63,38 @@ fn start_first(
     }
 }
 
-// Judges a whole record's frame.
+// Asks why a frame is dropped, before it is judged, where that is wanted.
+fn ask(
+    asks: bool,
+    records: &[u8],
+    tags: &[u32],
+    counts: &[i16],
+    clock: &u32,
+    time: u32,
+    frame: &[u8],
+) -> Asked
+    ensures { λ r. ⌜ r ≡ askedOf asks time (now (frame .entry))
+        (stateOf (now (records .entry)) (now (tags .entry)) (now (counts .entry)) (now (clock .entry))) ⌝ }
+{
+    if asks {
+        return Asked::Why(frames::why(
+            program_settings(),
+            &CELL,
+            &PLANT,
+            records,
+            tags,
+            counts,
+            clock,
+            time,
+            frame,
+        ));
+    }
+    Asked::Nothing
+}
+
+// Judges a whole record's frame, after it was asked why where that is wanted.
 fn judge_record(
+    asks: bool,
     bytes: &[u8],
     read: Record,
     is_first: bool,
@@ -60,10 +102,10 @@ fn judge_record(
     tags: &mut [u32],
     counts: &mut [i16],
     clock: &mut u32,
-) -> Answer
+) -> Judgement
     requires { ⌜ (read .from ≤ read .end) × (read .end ≤ length (now bytes)) ⌝ }
     ensures { λ r. ⌜ afterOf r (now (records .exit)) (now (tags .exit)) (now (counts .exit)) (now (clock .exit))
-        ≡ recordJudged «is_first» (now (bytes .entry)) read
+        ≡ judgementOf asks «is_first» (now (bytes .entry)) read
         (stateOf (now (records .entry)) (now (tags .entry)) (now (counts .entry)) (now (clock .entry))) ⌝ }
 {
     let time = read.seconds;
@@ -71,7 +113,8 @@ fn judge_record(
     let end = read.end;
     start_first(is_first, records, tags, counts, clock, time);
     let frame = &bytes[from..end];
-    frames::judge(
+    let asked = ask(asks, records, tags, counts, clock, time, frame);
+    let answer = frames::judge(
         program_settings(),
         &CELL,
         &PLANT,
@@ -81,12 +124,14 @@ fn judge_record(
         clock,
         time,
         frame,
-    )
+    );
+    Judgement { answer, asked }
 }
 
-// Reads the record at the cursor and, where it is whole, judges it; the first one starts the gateway. Answers the record and its answer, or
-// why there is none.
+// Reads the record at the cursor and, where it is whole, judges it, after it was asked why where that is wanted; the first one starts the
+// gateway. Answers the record and what it got, or why there is none.
 pub fn next(
+    asks: bool,
     bytes: &[u8],
     cursor: Cursor,
     is_first: bool,
@@ -96,16 +141,22 @@ pub fn next(
     clock: &mut u32,
 ) -> Step
     ensures { λ r. ⌜ afterOf r (now (records .exit)) (now (tags .exit)) (now (counts .exit)) (now (clock .exit))
-        ≡ stepped «is_first» (now (bytes .entry)) cursor
+        ≡ stepped asks «is_first» (now (bytes .entry)) cursor
         (stateOf (now (records .entry)) (now (tags .entry)) (now (counts .entry)) (now (clock .entry))) ⌝ }
 {
     match capture::next(bytes, cursor) {
         Reading::End => Step::End,
         Reading::Cut => Step::Cut,
         Reading::Long => Step::Long,
-        Reading::Whole(read) => Step::Judged {
-            read,
-            answer: judge_record(bytes, read, is_first, records, tags, counts, clock),
-        },
+        Reading::Whole(read) => {
+            let got = judge_record(asks, bytes, read, is_first, records, tags, counts, clock);
+            let answer = got.answer;
+            let asked = got.asked;
+            Step::Judged {
+                read,
+                answer,
+                asked,
+            }
+        }
     }
 }

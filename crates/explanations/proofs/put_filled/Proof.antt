@@ -39,8 +39,7 @@ loop-less c = omega arith
 loop-again : tie.Need-loop-again Inv-loop μ-loop
 loop-again c =
     let l = c .before .before .before .before .before .before .loop in
-    let s = c .before .before .before .before .before .before .before .before .before in
-    (
+    let s = c .before .before .before .before .before .before .before .before .before in (
       omega arith,
       c .before .before .put-letter .kept .0 ∙ l .inv .1,
       fill-next (s .args .report) (now (s .args .text)) (l .marked) (l .done) (roomOf (l .next) (l .room)) (c .before .before .before .before .before .loop-test .taken) (c .before .before .put-letter .ensures) ∙ l .inv .2,

@@ -1,7 +1,7 @@
 -- `outputs::put_opening` meets its contract, by which program it is.
 -- Assumes nothing.
-use mathlib.Core.Path.{_∙_, ap}
 use Prim.Native.Nat.{ℕ}
+use mathlib.Core.Path.{ap, _∙_}
 use Rattle.lines.specs.Room.{roomOf}
 use Rattle.outputs.specs.Outputs.{roomAfter}
 use borrow.Author.Needs.{needs}
@@ -20,6 +20,9 @@ put-header-requires c κs = search needs
 place-after-requires : tie.Need-place-after-requires
 place-after-requires c κs = search needs
 
+enum-known-output : tie.Need-enum-known-output
+enum-known-output c = search needs
+
 returns : tie.Need-returns
 returns c = rw (c .enum-told .given .1)
 
@@ -32,6 +35,9 @@ returns-2 c =
     rw (c .before .before .before .before .before .enum-told2 .given .1)
     (ap (λ (n : ℕ). roomOf n (c .before .before .before .put-header .last .0)) (c .place-after .ensures) ∙ ap (roomAfter (s .args .at)) (c .before .before .before .put-header .ensures))
 
+returns-3 : tie.Need-returns-3
+returns-3 c = rw (c .before .output .given .1)
+
 pub put-opening-spec : {M : Type 1} → statement M
 put-opening-spec =
     tie.close
@@ -40,6 +46,8 @@ put-opening-spec =
     enum-told-2
     put-header-requires
     place-after-requires
+    enum-known-output
     returns
     same-length
-    returns-2)
+    returns-2
+    returns-3)

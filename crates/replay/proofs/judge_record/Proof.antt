@@ -1,7 +1,7 @@
--- `replay::judge_record` meets its contract: a start where it is due, and then the frame.
+-- `replay::judge_record` meets its contract: a start where it is due, then the question where it is asked, and then the frame.
 -- Assumes nothing.
-use borrow.Author.Needs.{needs}
 use Rattle.replay.proofs.Cases.{judged-as}
+use borrow.Author.Needs.{needs}
 use Rattle.replay.proofs.judge_record.Statement.{statement}
 use Rattle.replay.proofs.judge_record.Tie as tie
 
@@ -16,6 +16,9 @@ part-frame-start c = search needs
 
 part-frame-end : tie.Need-part-frame-end
 part-frame-end c = search needs
+
+ask-requires : tie.Need-ask-requires
+ask-requires c κs = search needs
 
 program-settings-requires : tie.Need-program-settings-requires
 program-settings-requires c κs = search needs
@@ -39,7 +42,10 @@ same-length-3 : tie.Need-same-length-3
 same-length-3 c = search needs
 
 returns : tie.Need-returns
-returns c = judged-as _ _ (c .before .before .before .before .before .before .before .before .before .before .before .before .before .before .before .before .before .before .before .before .before .before .before .before .before .before .before .args .read) _ _ _ _ (c .before .before .before .before .before .before .before .before .before .before .before .before .program-settings .ensures) (c .before .before .before .before .before .before .before .before .before .before .before .before .before .before .before .before .before .before .before .start-first .ensures) (c .before .before .before .before .before .judge .ensures)
+returns c =
+    let s = c .before .before .before .before .before .before .before .before .before .before .before .before .before .before .before .before .before .before .before .before .before .before .before .before .before .before .before .before .before .before .before .before in
+    judged-as (s .args .asks) (s .args .is-first) _ (s .args .read) _ _ _ _ _ _
+    (c .before .before .before .before .before .before .before .before .before .before .before .before .program-settings .ensures) (c .before .before .before .before .before .before .before .before .before .before .before .before .before .before .before .before .before .before .before .before .before .before .before .before .start-first .ensures) (c .before .before .before .before .before .before .before .before .before .before .before .before .before .ask .ensures) (c .before .before .before .before .before .judge .ensures)
 
 pub judge-record-spec : {M : Type 1} → statement M
 judge-record-spec =
@@ -49,6 +55,7 @@ judge-record-spec =
     sub-frame
     part-frame-start
     part-frame-end
+    ask-requires
     program-settings-requires
     slice-aggregate-judge
     slice-aggregate-judge-2

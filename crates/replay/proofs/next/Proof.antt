@@ -1,10 +1,10 @@
 -- `replay::next` meets its contract, by what was read.
 -- Assumes nothing.
-use borrow.Author.Needs.{needs}
 use mathlib.Core.Path.{_∙_, sym, refl}
 use native.Mathlib.Omega.{arith}
 use Rattle.capture.proofs.Readings.{whole-record}
 use Rattle.replay.proofs.Cases.{read-as, whole-as}
+use borrow.Author.Needs.{needs}
 use Rattle.replay.proofs.next.Statement.{statement}
 use Rattle.replay.proofs.next.Tie as tie
 
@@ -24,17 +24,18 @@ enum-known-read : tie.Need-enum-known-read
 enum-known-read c = search needs
 
 judge-record-requires : tie.Need-judge-record-requires
-judge-record-requires c κs = let told = whole-record _ _ _ (sym (c .before .before .before .before .before .before .before .next .ensures) ∙ c .before .before .before .before .before .read .given .1) in
+judge-record-requires c κs =
+    let told = whole-record _ _ _ (sym (c .before .before .before .before .before .before .before .next .ensures) ∙ c .before .before .before .before .before .read .given .1) in
     (omega (arith, told .1), told .3)
 
 returns : tie.Need-returns
-returns c = read-as _ _ _ _ _ (sym (c .before .before .next .ensures) ∙ c .enum-told .given .1) refl
+returns c = read-as _ _ _ _ _ _ (sym (c .before .before .next .ensures) ∙ c .enum-told .given .1) refl
 
 returns-2 : tie.Need-returns-2
-returns-2 c = read-as _ _ _ _ _ (sym (c .before .before .next .ensures) ∙ c .enum-told2 .given .1) refl
+returns-2 c = read-as _ _ _ _ _ _ (sym (c .before .before .next .ensures) ∙ c .enum-told2 .given .1) refl
 
 returns-3 : tie.Need-returns-3
-returns-3 c = read-as _ _ _ _ _ (sym (c .before .before .next .ensures) ∙ c .enum-told3 .given .1) refl
+returns-3 c = read-as _ _ _ _ _ _ (sym (c .before .before .next .ensures) ∙ c .enum-told3 .given .1) refl
 
 same-length : tie.Need-same-length
 same-length c = search needs
@@ -46,8 +47,9 @@ same-length-3 : tie.Need-same-length-3
 same-length-3 c = search needs
 
 returns-4 : tie.Need-returns-4
-returns-4 c = read-as _ _ _ _ _ (sym (c .before .before .before .before .before .before .before .before .before .before .before .before .before .next .ensures) ∙ c .before .before .before .before .before .before .before .before .before .before .before .read .given .1)
-    (whole-as _ _ _ _ _ (c .before .before .before .before .before .judge-record .ensures))
+returns-4 c =
+    read-as _ _ _ _ _ _ (sym (c .before .before .before .before .before .before .before .before .before .before .before .before .before .next .ensures) ∙ c .before .before .before .before .before .before .before .before .before .before .before .read .given .1)
+    (whole-as _ _ _ _ _ _ (c .before .before .before .before .before .judge-record .ensures))
 
 pub next-spec : {M : Type 1} → statement M
 next-spec =
