@@ -61,8 +61,7 @@ loop-less c = omega arith
 loop-again : tie.Need-loop-again Inv-loop μ-loop
 loop-again c =
     let l = c .before .before .before .before .loop in
-    let d = digit-range (getD (now (c .before .before .before .before .before .before .before .args .bytes)) (c .before .before .before .before .loop .done) 0) (sym (c .before .is-digit .ensures) ∙ c .if2 .taken) in
-    (
+    let d = digit-range (getD (now (c .before .before .before .before .before .before .before .args .bytes)) (c .before .before .before .before .loop .done) 0) (sym (c .before .is-digit .ensures) ∙ c .if2 .taken) in (
       omega (arith, c .before .before .before .loop-test .taken),
       fits-more (l .value) (getD (now (c .before .before .before .before .before .before .before .args .bytes)) (l .done) 0 - 48) (l .done) (l .inv .1) (omega (arith, d)) (omega (arith, c .before .before .before .before .before .if1 .left, c .before .before .before .loop-test .taken)) .0,
       number-next (now (c .before .before .before .before .before .before .before .args .bytes)) (c .before .before .before .before .loop .value) (c .before .before .before .before .loop .done) (c .before .before .before .loop-test .taken) (sym (c .before .is-digit .ensures) ∙ c .if2 .taken) ∙ l .inv .2,
