@@ -75,6 +75,26 @@ struct spritgrommet_answer {
     uint32_t address; /* that address */
 };
 
+/* Why a packet is dropped. A number that it does not have is 0: a refusal has nothing else, and verdicts 0 to 4 have nothing beside them.
+ * Of a dropped packet, which is always one from the cell, it has what the packet meets at its second, and which of four facts are reported:
+ * its cell address's count, the two marks of its connection record, and its kind. A fact is reported exactly if changing it alone, to some
+ * value it may take, would have had the packet forwarded; at least one of them is. */
+struct spritgrommet_reason {
+    uint8_t refusal;    /* 0, or the number of the refusal */
+    uint8_t verdict;    /* the packet's, as in `spritgrommet_answer`: 5 and 6 are dropped */
+    uint8_t kind;       /* 0 UDP. 1 opening. 2 SYN+ACK. 3 closing. 4 plain. */
+    bool plant_mark;    /* the record has the plant-to-cell mark */
+    bool cell_mark;     /* the record has the cell-to-plant mark */
+    int16_t count;      /* the cell address's count */
+    uint16_t threshold; /* T */
+    bool by_count;      /* the count is reported: with another one the packet would have been forwarded */
+    bool by_plant_mark; /* the plant-to-cell mark is reported */
+    bool by_cell_mark;  /* the cell-to-plant mark is reported */
+    bool by_kind;       /* the kind is reported */
+    size_t cell_entry;  /* which entry of the cell list decided on the source address, from 1 */
+    size_t plant_entry; /* which entry of the plant list decided on the destination address, from 1 */
+};
+
 /* The entry of the side lists that decides on an address. */
 struct spritgrommet_winner {
     uint8_t side;  /* 1: it stands in the cell list. 2: in the plant list. 0: neither holds the address. */
@@ -142,6 +162,18 @@ struct spritgrommet_answer spritgrommet_judge_frame(struct spritgrommet_settings
                                                     uint32_t *tags, size_t tag_count, int16_t *counts, size_t count_count,
                                                     uint32_t *clock, uint32_t time, const uint8_t *frame, size_t frame_length);
 
+/* `spritgrommet_packet_reason` below, over its parts. Tables and clock are only read. */
+struct spritgrommet_reason spritgrommet_why(struct spritgrommet_settings settings, const uint8_t *cell, size_t cell_length,
+                                            const uint8_t *plant, size_t plant_length, const uint8_t *records, size_t record_count,
+                                            const uint32_t *tags, size_t tag_count, const int16_t *counts, size_t count_count,
+                                            const uint32_t *clock, uint32_t time, const uint8_t *packet, size_t packet_length);
+
+/* `spritgrommet_frame_reason` below, over its parts. Tables and clock are only read. */
+struct spritgrommet_reason spritgrommet_why_frame(struct spritgrommet_settings settings, const uint8_t *cell, size_t cell_length,
+                                                  const uint8_t *plant, size_t plant_length, const uint8_t *records, size_t record_count,
+                                                  const uint32_t *tags, size_t tag_count, const int16_t *counts, size_t count_count,
+                                                  const uint32_t *clock, uint32_t time, const uint8_t *frame, size_t frame_length);
+
 /* Which entry of the side lists decides on an address: the longest prefix that holds it; at equal length the cell list wins; inside a
  * list the first such entry. It is never refused: a list that number 3 refuses is read entry by entry all the same, where one with a prefix
  * length over 32 holds no address and bytes after the last whole entry are ignored. */
@@ -203,6 +235,27 @@ static inline struct spritgrommet_answer spritgrommet_frame(struct spritgrommet 
     return spritgrommet_judge_frame(gateway->settings, gateway->cell.bytes, gateway->cell.length, gateway->plant.bytes,
                                     gateway->plant.length, gateway->records, gateway->record_count, gateway->tags, gateway->entry_count,
                                     gateway->counts, gateway->entry_count, &gateway->clock, time, frame, length);
+}
+
+/* Why a packet, from its IPv4 header on, that comes at a time is dropped, if it is. Answers the refusal or the verdict that
+ * `spritgrommet_packet` would answer, and beside verdicts 5 and 6 the reason. Ask before the packet is judged, with the gateway as it
+ * stands then: the answer is about the tables as they would stand at the packet's second. Afterwards it would be about one more packet of
+ * the same bytes. Nothing is changed, not even the clock. */
+static inline struct spritgrommet_reason spritgrommet_packet_reason(const struct spritgrommet *gateway, uint32_t time,
+                                                                    const uint8_t *packet, size_t length)
+{
+    return spritgrommet_why(gateway->settings, gateway->cell.bytes, gateway->cell.length, gateway->plant.bytes, gateway->plant.length,
+                            gateway->records, gateway->record_count, gateway->tags, gateway->entry_count, gateway->counts,
+                            gateway->entry_count, &gateway->clock, time, packet, length);
+}
+
+/* The same for an Ethernet frame, with the refusal or the verdict that `spritgrommet_frame` would answer. */
+static inline struct spritgrommet_reason spritgrommet_frame_reason(const struct spritgrommet *gateway, uint32_t time, const uint8_t *frame,
+                                                                   size_t length)
+{
+    return spritgrommet_why_frame(gateway->settings, gateway->cell.bytes, gateway->cell.length, gateway->plant.bytes,
+                                  gateway->plant.length, gateway->records, gateway->record_count, gateway->tags, gateway->entry_count,
+                                  gateway->counts, gateway->entry_count, &gateway->clock, time, frame, length);
 }
 
 #ifdef __cplusplus

@@ -86,6 +86,59 @@ pub struct Answer {
     pub replaced: Option<u32>,
 }
 
+/// The kinds of packet, by their words in document 01.
+#[derive(Clone, Copy, Debug, PartialEq, Eq)]
+pub enum Kind {
+    Udp = 0,
+    Opening = 1,
+    SynAck = 2,
+    Closing = 3,
+    Plain = 4,
+}
+
+impl Kind {
+    const ALL: [Kind; 5] = [Kind::Udp, Kind::Opening, Kind::SynAck, Kind::Closing, Kind::Plain];
+}
+
+/// Why a packet is dropped, if it is.
+#[derive(Clone, Copy, Debug, PartialEq, Eq)]
+pub enum Reason {
+    /// The verdict alone, 0 to 4. One that is not ours counts as forwarded.
+    Forwarded(Verdict),
+    Dropped(Dropped),
+}
+
+/// A packet from the cell that is dropped, by what it meets at its second.
+#[derive(Clone, Copy, Debug, PartialEq, Eq)]
+pub struct Dropped {
+    /// Hygiene or blocked.
+    pub verdict: Verdict,
+    pub kind: Kind,
+    /// Whether its connection record has the plant-to-cell mark.
+    pub plant_mark: bool,
+    /// Whether its connection record has the cell-to-plant mark.
+    pub cell_mark: bool,
+    /// Its cell address's count.
+    pub count: i16,
+    /// T.
+    pub threshold: u16,
+    pub reported: Facts,
+    /// Which entry of the cell list decided on its source address, from 1.
+    pub cell_entry: usize,
+    /// Which entry of the plant list decided on its destination address, from 1.
+    pub plant_entry: usize,
+}
+
+/// Whether each of four facts is reported: exactly if changing it alone, to some value it may take, would have had the packet forwarded.
+/// At least one is.
+#[derive(Clone, Copy, Debug, PartialEq, Eq)]
+pub struct Facts {
+    pub count: bool,
+    pub plant_mark: bool,
+    pub cell_mark: bool,
+    pub kind: bool,
+}
+
 fn unless_refused(refusal: u8) -> Result<(), Refusal> {
     if refusal == 0 {
         Ok(())
@@ -100,6 +153,27 @@ fn answer_of(plain: raw::PlainAnswer) -> Result<Answer, Refusal> {
     let count = (verdict != Verdict::NotOurs).then_some(plain.count);
     let replaced = (plain.replaced == 1).then_some(plain.address);
     Ok(Answer { verdict, count, replaced })
+}
+
+fn reason_of(plain: raw::PlainReason) -> Result<Reason, Refusal> {
+    unless_refused(plain.refusal)?;
+    let verdict = Verdict::ALL[usize::from(plain.verdict)];
+    if !verdict.is_dropped() {
+        return Ok(Reason::Forwarded(verdict));
+    }
+    let reported =
+        Facts { count: plain.by_count, plant_mark: plain.by_plant_mark, cell_mark: plain.by_cell_mark, kind: plain.by_kind };
+    Ok(Reason::Dropped(Dropped {
+        verdict,
+        kind: Kind::ALL[usize::from(plain.kind)],
+        plant_mark: plain.plant_mark,
+        cell_mark: plain.cell_mark,
+        count: plain.count,
+        threshold: plain.threshold,
+        reported,
+        cell_entry: plain.cell_entry,
+        plant_entry: plain.plant_entry,
+    }))
 }
 
 /// Adds an answer's verdict to seven totals, one for each verdict, that stop at 4,294,967,295. A refusal adds nothing.
@@ -233,6 +307,18 @@ impl Gateway {
         self.judged(raw::spritgrommet_judge_frame, time, frame)
     }
 
+    /// Why a packet, from its IPv4 header on, that comes at a time is dropped, if it is. To be asked before the packet is judged: the
+    /// answer is about the tables as they would stand at that second. Refused exactly as the packet would be; nothing is changed.
+    pub fn why(&self, time: u32, packet: &[u8]) -> Result<Reason, Refusal> {
+        self.explained(raw::spritgrommet_why, time, packet)
+    }
+
+    /// Why what an Ethernet frame that comes at a time carries is dropped, if it is: as for a packet, with the refusal or the verdict that
+    /// `frame` would answer.
+    pub fn why_frame(&self, time: u32, frame: &[u8]) -> Result<Reason, Refusal> {
+        self.explained(raw::spritgrommet_why_frame, time, frame)
+    }
+
     fn judged(&mut self, judge: raw::Judge, time: u32, bytes: &[u8]) -> Result<Answer, Refusal> {
         // SAFETY: as in `start`; lists and bytes are lent for reading, and overlap nothing that is written.
         answer_of(unsafe {
@@ -249,6 +335,29 @@ impl Gateway {
                 self.counts.as_mut_ptr(),
                 self.counts.len(),
                 &mut self.clock,
+                time,
+                bytes.as_ptr(),
+                bytes.len(),
+            )
+        })
+    }
+
+    fn explained(&self, explain: raw::Explain, time: u32, bytes: &[u8]) -> Result<Reason, Refusal> {
+        // SAFETY: each pointer leads to as many elements as the length beside it says, and nothing is written.
+        reason_of(unsafe {
+            explain(
+                self.settings,
+                self.cell.as_ptr(),
+                self.cell.len(),
+                self.plant.as_ptr(),
+                self.plant.len(),
+                self.records.as_ptr(),
+                self.records.len(),
+                self.tags.as_ptr(),
+                self.tags.len(),
+                self.counts.as_ptr(),
+                self.counts.len(),
+                &self.clock,
                 time,
                 bytes.as_ptr(),
                 bytes.len(),

@@ -15,6 +15,25 @@ pub struct PlainAnswer {
     pub address: u32,
 }
 
+/// Why a packet is dropped. A number that it does not have is 0: a refusal has nothing else, and verdicts 0 to 4 have nothing beside them.
+#[repr(C)]
+#[derive(Clone, Copy, Debug, PartialEq, Eq)]
+pub struct PlainReason {
+    pub refusal: u8,
+    pub verdict: u8,
+    pub kind: u8,
+    pub plant_mark: bool,
+    pub cell_mark: bool,
+    pub count: i16,
+    pub threshold: u16,
+    pub by_count: bool,
+    pub by_plant_mark: bool,
+    pub by_cell_mark: bool,
+    pub by_kind: bool,
+    pub cell_entry: usize,
+    pub plant_entry: usize,
+}
+
 /// The winning entry: 1 for the cell list, 2 for the plant list, 0 for neither; and its number there, from 1.
 #[repr(C)]
 pub struct PlainWinner {
@@ -77,6 +96,25 @@ pub type Judge = unsafe extern "C" fn(
     length: usize,
 ) -> PlainAnswer;
 
+/// What explains a packet and what explains a frame take and answer.
+pub type Explain = unsafe extern "C" fn(
+    settings: Settings,
+    cell: *const u8,
+    cell_length: usize,
+    plant: *const u8,
+    plant_length: usize,
+    records: *const u8,
+    record_count: usize,
+    tags: *const u32,
+    tag_count: usize,
+    counts: *const i16,
+    count_count: usize,
+    clock: *const u32,
+    time: u32,
+    bytes: *const u8,
+    length: usize,
+) -> PlainReason;
+
 extern "C" {
     pub fn spritgrommet_factory() -> Settings;
     pub fn spritgrommet_cold_start(
@@ -135,6 +173,40 @@ extern "C" {
         frame: *const u8,
         frame_length: usize,
     ) -> PlainAnswer;
+    pub fn spritgrommet_why(
+        settings: Settings,
+        cell: *const u8,
+        cell_length: usize,
+        plant: *const u8,
+        plant_length: usize,
+        records: *const u8,
+        record_count: usize,
+        tags: *const u32,
+        tag_count: usize,
+        counts: *const i16,
+        count_count: usize,
+        clock: *const u32,
+        time: u32,
+        packet: *const u8,
+        packet_length: usize,
+    ) -> PlainReason;
+    pub fn spritgrommet_why_frame(
+        settings: Settings,
+        cell: *const u8,
+        cell_length: usize,
+        plant: *const u8,
+        plant_length: usize,
+        records: *const u8,
+        record_count: usize,
+        tags: *const u32,
+        tag_count: usize,
+        counts: *const i16,
+        count_count: usize,
+        clock: *const u32,
+        time: u32,
+        frame: *const u8,
+        frame_length: usize,
+    ) -> PlainReason;
     pub fn spritgrommet_winner(
         cell: *const u8,
         cell_length: usize,

@@ -11,7 +11,7 @@ use lib.ListN.{length, getD, drop, drop-of-length-le}
 use lib.Seq.{drop-cons}
 use borrow.Author.Tests.{leb-true}
 use Rattle.laws.proofs.Tests.{and-left, and-right, cond-at}
-use Rattle.arguments.specs.Arguments.{isDigit, numberFrom, recordNumber}
+use Rattle.arguments.specs.Arguments.{isDigit, numberFrom}
 
 pub digit-range : (byte : ℕ) → isDigit byte ≡ true → (48 ≤ byte) × (byte ≤ 57)
 digit-range byte e =

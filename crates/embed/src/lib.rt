@@ -134,17 +134,8 @@ pub extern "C" fn spritgrommet_why(
     ensures { λ r. ⌜ r ≡ plainReason (whyOf document01 set (now (cell .entry)) (now (plant .entry)) time (now (packet .entry))
         (stateOf (now (records .entry)) (now (tags .entry)) (now (counts .entry)) (now (clock .entry)))) ⌝ }
 {
-    plain::of_explanation(gateway::why(
-        set,
-        cell,
-        plant,
-        records,
-        tags,
-        counts,
-        clock,
-        time,
-        packet,
-    ))
+    let told = gateway::why(set, cell, plant, records, tags, counts, clock, time, packet);
+    plain::of_explanation(told)
 }
 
 // Why what an Ethernet frame that comes at a time carries is dropped. Tables and clock are only read.
@@ -163,7 +154,8 @@ pub extern "C" fn spritgrommet_why_frame(
     ensures { λ r. ⌜ r ≡ plainReason (frameExplained document01 set (now (cell .entry)) (now (plant .entry)) time (now (frame .entry))
         (stateOf (now (records .entry)) (now (tags .entry)) (now (counts .entry)) (now (clock .entry)))) ⌝ }
 {
-    plain::of_explanation(frames::why(set, cell, plant, records, tags, counts, clock, time, frame))
+    let told = frames::why(set, cell, plant, records, tags, counts, clock, time, frame);
+    plain::of_explanation(told)
 }
 
 // The entry of the side lists that decides on an address: whose list has it, and its place there.

@@ -11,7 +11,7 @@ use Rattle.capture.specs.declared.Reading.the-variants.{End, Cut, Long, Whole}
 use Rattle.capture.specs.Capture.{nextOf}
 use Rattle.capture.specs.Whole.{Course, movedTo, turn, inTurn, courseOf, bytesOf, contentIn, placed, later, laterRecord}
 use Rattle.capture.proofs.Pieces.{same-bytes, course-in-pieces}
-use Rattle.replay.specs.Replay.{recordJudged, recordAsked}
+use Rattle.replay.specs.Replay.{recordJudged}
 use Rattle.outputs.specs.declared.Output.{Output}
 use Rattle.outputs.specs.Outputs.{toldOf}
 use Rattle.endings.specs.Endings.{oneMore}

@@ -22,7 +22,6 @@ use Rattle.records.specs.Records.{plantSeen, cellSeen}
 use Rattle.tables.specs.Tables.{Tables}
 use Rattle.entries.specs.Entries.{Written, written, writtenOf}
 use Rattle.entries.specs.declared.Replaced.the-variants.{Nothing}
-use Rattle.verdicts.specs.declared.Verdict.{Verdict}
 use Rattle.verdicts.specs.declared.Verdict.the-variants.{Uncounted, CreditOfTwo}
 use Rattle.verdicts.specs.Verdicts.{isForwarded, isClosing, fromThePlant, verdictOf}
 use Rattle.reasons.specs.declared.Drop.{Drop}
@@ -41,8 +40,8 @@ use Rattle.rulings.proofs.Slips.{drop-writes-nothing}
 use Rattle.gateway.specs.declared.Met.{Met}
 use Rattle.gateway.specs.declared.Spot.{Spot}
 use Rattle.gateway.specs.Packets.{replacementOf, entered, spotOf, rulingAt, settled, ours, directionIn, byDirection}
-use Rattle.gateway.specs.Calls.{State, After, unlessRefused, onward, accepted, packetRefusal, judged}
-use Rattle.gateway.specs.Why.{metIn, dropOf, whyMet, whyOurs, whyByDirection, unlessRefusedBy, whyOf}
+use Rattle.gateway.specs.Calls.{State, After, unlessRefused, onward, packetRefusal, judged}
+use Rattle.gateway.specs.Why.{metIn, dropOf, whyOurs, whyByDirection, unlessRefusedBy, whyOf}
 
 -- what is told agrees with an answer: the same refusal; not ours as well; the same verdict; and where it is dropped the same verdict and the
 -- same count, and no address was replaced

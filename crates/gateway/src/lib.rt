@@ -436,13 +436,13 @@ fn explain_by_direction(
         (onward 1 set time (stateOf (now (records .entry)) (now (tags .entry)) (now (counts .entry)) clock) .tables) ⌝ }
 {
     if is_ours(direction) {
-        let from_plant = is_from_plant(direction);
+        let of_plant = is_from_plant(direction);
         return explain_ours(
             set,
             cell,
             plant,
             header,
-            from_plant,
+            of_plant,
             records,
             tags,
             counts,
@@ -487,9 +487,9 @@ pub fn why(
     match packet::read(packet) {
         Reading::Refused(number) => Explanation::Refused(number),
         Reading::Packet(header) => {
-            let source = header.source;
-            let destination = header.destination;
-            let direction = sides::direction_between(cell, plant, source, destination);
+            let from = header.source;
+            let to = header.destination;
+            let direction = sides::direction_between(cell, plant, from, to);
             explain_by_direction(
                 set,
                 cell,

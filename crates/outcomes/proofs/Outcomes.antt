@@ -2,6 +2,7 @@
 -- equal. An outcome is what is returned and all that is left in lent memory; `Learnt` is what a contract tells its caller. tools/one-outcome
 -- writes this file from the sources.
 -- Assumes nothing.
+use Rattle.arguments.proofs.record_number.Reads as arguments-record-number
 use Rattle.capture.proofs.next.Reads as capture-next
 use Rattle.capture.proofs.open.Reads as capture-open
 use Rattle.capture.proofs.put_header.Reads as capture-put-header
@@ -15,6 +16,7 @@ use Rattle.counts.proofs.is_empty.Reads as counts-is-empty
 use Rattle.counts.proofs.lowered.Reads as counts-lowered
 use Rattle.counts.proofs.raised.Reads as counts-raised
 use Rattle.embed.proofs.plain.of_answer.Reads as embed-plain-of-answer
+use Rattle.embed.proofs.plain.of_explanation.Reads as embed-plain-of-explanation
 use Rattle.embed.proofs.plain.of_opened.Reads as embed-plain-of-opened
 use Rattle.embed.proofs.plain.of_reading.Reads as embed-plain-of-reading
 use Rattle.embed.proofs.plain.of_reply.Reads as embed-plain-of-reply
@@ -32,6 +34,8 @@ use Rattle.embed.proofs.spritgrommet_pass.Reads as embed-spritgrommet-pass
 use Rattle.embed.proofs.spritgrommet_put_header.Reads as embed-spritgrommet-put-header
 use Rattle.embed.proofs.spritgrommet_put_record.Reads as embed-spritgrommet-put-record
 use Rattle.embed.proofs.spritgrommet_tally.Reads as embed-spritgrommet-tally
+use Rattle.embed.proofs.spritgrommet_why.Reads as embed-spritgrommet-why
+use Rattle.embed.proofs.spritgrommet_why_frame.Reads as embed-spritgrommet-why-frame
 use Rattle.embed.proofs.spritgrommet_winner.Reads as embed-spritgrommet-winner
 use Rattle.embed.specs.Plain.{plainPutOf}
 use Rattle.endings.proofs.one_more.Reads as endings-one-more
@@ -40,18 +44,27 @@ use Rattle.endings.proofs.put_refused_header.Reads as endings-put-refused-heade
 use Rattle.entries.proofs.count_of.Reads as entries-count-of
 use Rattle.entries.proofs.write.Reads as entries-write
 use Rattle.entries.specs.Entries.{writtenOf}
+use Rattle.explanations.proofs.put_asked.Reads as explanations-put-asked
 use Rattle.feeding.proofs.feed.Reads as feeding-feed
 use Rattle.feeding.specs.Feeding.{replayedOf}
 use Rattle.frames.proofs.judge.Reads as frames-judge
 use Rattle.frames.proofs.what_is_in.Reads as frames-what-is-in
+use Rattle.frames.proofs.why.Reads as frames-why
 use Rattle.gateway.proofs.cold_start.Reads as gateway-cold-start
 use Rattle.gateway.proofs.judge.Reads as gateway-judge
 use Rattle.gateway.proofs.pass.Reads as gateway-pass
+use Rattle.gateway.proofs.why.Reads as gateway-why
 use Rattle.gateway.specs.Calls.{afterOf}
 use Rattle.gateway.specs.Calls.{stateOf}
+use Rattle.lines.proofs.put_byte.Reads as lines-put-byte
+use Rattle.lines.proofs.put_decimal.Reads as lines-put-decimal
+use Rattle.lines.proofs.put_dotted.Reads as lines-put-dotted
 use Rattle.lines.proofs.put_last_line.Reads as lines-put-last-line
 use Rattle.lines.proofs.put_line.Reads as lines-put-line
+use Rattle.lines.proofs.put_signed.Reads as lines-put-signed
+use Rattle.lines.proofs.put_text.Reads as lines-put-text
 use Rattle.lines.specs.Room.{roomOf}
+use Rattle.outputs.proofs.asks_why.Reads as outputs-asks-why
 use Rattle.outputs.proofs.is_forwarded.Reads as outputs-is-forwarded
 use Rattle.outputs.proofs.put_opening.Reads as outputs-put-opening
 use Rattle.outputs.proofs.put_told.Reads as outputs-put-told
@@ -63,6 +76,7 @@ use Rattle.permute.proofs.encrypt.Reads as permute-encrypt
 use Rattle.places.proofs.address_of.Reads as places-address-of
 use Rattle.places.proofs.place_of.Reads as places-place-of
 use Rattle.places.proofs.slot.Reads as places-slot
+use Rattle.reasons.proofs.report.Reads as reasons-report
 use Rattle.records.proofs.age_all.Reads as records-age-all
 use Rattle.records.proofs.aged.Reads as records-aged
 use Rattle.records.proofs.marks_of.Reads as records-marks-of
@@ -270,14 +284,38 @@ verdicts-verdict-of-one κs a x y s t p q = same p q
 pub verdicts-record-after-one : (κs : _) (a : _) → One (verdicts-record-after.Learnt κs a) (λ x s. x)
 verdicts-record-after-one κs a x y s t p q = same p q
 
+pub reasons-report-one : (κs : _) (a : _) → One (reasons-report.Learnt κs a) (λ x s. x)
+reasons-report-one κs a x y s t p q = same p q
+
 pub rulings-ruling-of-one : (κs : _) (a : _) → One (rulings-ruling-of.Learnt κs a) (λ x s. x)
 rulings-ruling-of-one κs a x y s t p q = same p q
+
+pub lines-put-byte-one : (κs : _) (a : _) → One (lines-put-byte.Learnt κs a) (λ x s. roomOf x (now (s .0)))
+lines-put-byte-one κs a x y s t p q = same p q
+
+pub lines-put-text-one : (κs : _) (a : _) → One (lines-put-text.Learnt κs a) (λ x s. roomOf x (now (s .0)))
+lines-put-text-one κs a x y s t p q = same p q
+
+pub lines-put-decimal-one : (κs : _) (a : _) → One (lines-put-decimal.Learnt κs a) (λ x s. roomOf x (now (s .0)))
+lines-put-decimal-one κs a x y s t p q = same p q
+
+pub lines-put-signed-one : (κs : _) (a : _) → One (lines-put-signed.Learnt κs a) (λ x s. roomOf x (now (s .0)))
+lines-put-signed-one κs a x y s t p q = same p q
+
+pub lines-put-dotted-one : (κs : _) (a : _) → One (lines-put-dotted.Learnt κs a) (λ x s. roomOf x (now (s .0)))
+lines-put-dotted-one κs a x y s t p q = same p q
 
 pub lines-put-line-one : (κs : _) (a : _) → One (lines-put-line.Learnt κs a) (λ x s. roomOf x (now (s .0)))
 lines-put-line-one κs a x y s t p q = same p q
 
 pub lines-put-last-line-one : (κs : _) (a : _) → One (lines-put-last-line.Learnt κs a) (λ x s. roomOf x (now (s .0)))
 lines-put-last-line-one κs a x y s t p q = same p q
+
+pub arguments-record-number-one : (κs : _) (a : _) → One (arguments-record-number.Learnt κs a) (λ x s. x)
+arguments-record-number-one κs a x y s t p q = same p q
+
+pub explanations-put-asked-one : (κs : _) (a : _) → One (explanations-put-asked.Learnt κs a) (λ x s. roomOf x (now (s .0)))
+explanations-put-asked-one κs a x y s t p q = same p q
 
 pub cold-fill-one : (κs : _) (a : _) → One (cold-fill.Learnt κs a) (λ x s. tablesOf (now (s .0)) (now (s .1 .0)) (now (s .1 .1 .0)))
 cold-fill-one κs a x y s t p q = same p q
@@ -300,6 +338,9 @@ gateway-pass-one κs a x y s t p q = same p q
 pub gateway-judge-one : (κs : _) (a : _) → One (gateway-judge.Learnt κs a) (λ x s. afterOf x (now (s .1 .1 .1 .0)) (now (s .1 .1 .1 .1 .0)) (now (s .1 .1 .1 .1 .1 .0)) (now (s .1 .1 .1 .1 .1 .1 .0)))
 gateway-judge-one κs a x y s t p q = same p q
 
+pub gateway-why-one : (κs : _) (a : _) → One (gateway-why.Learnt κs a) (λ x s. x)
+gateway-why-one κs a x y s t p q = same p q
+
 pub tally-tally-empty-one : (κs : _) (a : _) → One (tally-tally-empty.Learnt κs a) (λ x s. x)
 tally-tally-empty-one κs a x y s t p q = same p q
 
@@ -315,8 +356,14 @@ frames-what-is-in-one κs a x y s t p q = same p q
 pub frames-judge-one : (κs : _) (a : _) → One (frames-judge.Learnt κs a) (λ x s. afterOf x (now (s .1 .1 .1 .0)) (now (s .1 .1 .1 .1 .0)) (now (s .1 .1 .1 .1 .1 .0)) (now (s .1 .1 .1 .1 .1 .1 .0)))
 frames-judge-one κs a x y s t p q = same p q
 
-pub replay-next-one : (κs : _) (a : _) → One (replay-next.Learnt κs a) (λ x s. afterOf x (now (s .1 .1 .1 .0)) (now (s .1 .1 .1 .1 .0)) (now (s .1 .1 .1 .1 .1 .0)) (now (s .1 .1 .1 .1 .1 .1 .0)))
+pub frames-why-one : (κs : _) (a : _) → One (frames-why.Learnt κs a) (λ x s. x)
+frames-why-one κs a x y s t p q = same p q
+
+pub replay-next-one : (κs : _) (a : _) → One (replay-next.Learnt κs a) (λ x s. afterOf x (now (s .1 .1 .1 .1 .0)) (now (s .1 .1 .1 .1 .1 .0)) (now (s .1 .1 .1 .1 .1 .1 .0)) (now (s .1 .1 .1 .1 .1 .1 .1 .0)))
 replay-next-one κs a x y s t p q = same p q
+
+pub outputs-asks-why-one : (κs : _) (a : _) → One (outputs-asks-why.Learnt κs a) (λ x s. x)
+outputs-asks-why-one κs a x y s t p q = same p q
 
 pub outputs-is-forwarded-one : (κs : _) (a : _) → One (outputs-is-forwarded.Learnt κs a) (λ x s. x)
 outputs-is-forwarded-one κs a x y s t p q = same p q
@@ -360,6 +407,12 @@ embed-spritgrommet-judge-one κs a x y s t p q = same p q
 pub embed-spritgrommet-judge-frame-one : (κs : _) (a : _) → One (embed-spritgrommet-judge-frame.Learnt κs a) (λ x s. afterOf x (now (s .1 .1 .1 .0)) (now (s .1 .1 .1 .1 .0)) (now (s .1 .1 .1 .1 .1 .0)) (now (s .1 .1 .1 .1 .1 .1 .0)))
 embed-spritgrommet-judge-frame-one κs a x y s t p q = same p q
 
+pub embed-spritgrommet-why-one : (κs : _) (a : _) → One (embed-spritgrommet-why.Learnt κs a) (λ x s. x)
+embed-spritgrommet-why-one κs a x y s t p q = same p q
+
+pub embed-spritgrommet-why-frame-one : (κs : _) (a : _) → One (embed-spritgrommet-why-frame.Learnt κs a) (λ x s. x)
+embed-spritgrommet-why-frame-one κs a x y s t p q = same p q
+
 pub embed-spritgrommet-winner-one : (κs : _) (a : _) → One (embed-spritgrommet-winner.Learnt κs a) (λ x s. x)
 embed-spritgrommet-winner-one κs a x y s t p q = same p q
 
@@ -401,6 +454,9 @@ embed-plain-of-opened-one κs a x y s t p q = same p q
 
 pub embed-plain-of-reading-one : (κs : _) (a : _) → One (embed-plain-of-reading.Learnt κs a) (λ x s. x)
 embed-plain-of-reading-one κs a x y s t p q = same p q
+
+pub embed-plain-of-explanation-one : (κs : _) (a : _) → One (embed-plain-of-explanation.Learnt κs a) (λ x s. x)
+embed-plain-of-explanation-one κs a x y s t p q = same p q
 
 -- programs::replay is left out: it answers nothing, is lent nothing, and what it reads and writes no contract can say
 

@@ -8,7 +8,7 @@ use native.Mathlib.Omega.{arith}
 use lib.IntN.{ℤ, pos, negsuc, natAbs}
 use Rattle.laws.specs.Search.{some}
 use Rattle.laws.specs.Choice.{atSome}
-use Rattle.laws.proofs.Search.{Passing, some-is, some-at, some-none}
+use Rattle.laws.proofs.Search.{some-is, some-at, some-none}
 use Rattle.laws.proofs.Signed.{signed, difference-is, size, one-part}
 use Rattle.laws.proofs.Tests.{true-is-not-false, or-yes, or-left}
 use Rattle.packet.specs.declared.kinds.Kind.{Kind}

@@ -3,7 +3,7 @@ ghost use mathlib.Core.Path.{_≡_};
 ghost use Prim.Native.Nat.{_≤_};
 ghost use lib.ListN.{length};
 ghost use Rattle.gateway.specs.Calls.{afterOf, stateOf};
-ghost use Rattle.replay.specs.Replay.{programSettings, startedFirst, recordJudged, askedOf, recordAsked, judgementOf, stepped};
+ghost use Rattle.replay.specs.Replay.{programSettings, startedFirst, askedOf, judgementOf, stepped};
 use capture::Cursor;
 use capture::Reading;
 use capture::Record;

@@ -10,17 +10,17 @@ use spritgrommet::{tally, Answer, Gateway, Refusal, Settings};
 type Entry = (u32, u32);
 
 /// A side list as bytes.
-fn bytes_of(list: &[Entry]) -> Vec<u8> {
+pub fn bytes_of(list: &[Entry]) -> Vec<u8> {
     list.iter().flat_map(|(net, prefix)| net.to_be_bytes().into_iter().chain([*prefix as u8])).collect()
 }
 
 /// One of few addresses, so that slots and lines are met again.
-fn address(random: &mut Random) -> u32 {
+pub fn address(random: &mut Random) -> u32 {
     random.below(8) << 29 | random.below(3)
 }
 
 /// A list in which short prefixes, long ones and equal ones overlap. It lives as long as the test, since the second program's lists do.
-fn list(random: &mut Random) -> &'static [Entry] {
+pub fn list(random: &mut Random) -> &'static [Entry] {
     let entry = |random: &mut Random| (address(random), random.pick(&[0, 1, 2, 3, 3, 3, 31, 32]));
     (0..random.below(12)).map(|_| entry(random)).collect::<Vec<_>>().leak()
 }
@@ -45,8 +45,20 @@ fn second_settings(settings: &Settings) -> SecondSettings {
     }
 }
 
+/// One gateway of each, with the same settings, side lists, sizes and start.
+pub fn both(random: &mut Random) -> (Gateway, Second) {
+    let settings = settings(random);
+    let (cell, plant) = (list(random), list(random));
+    let (records, lines) = (16 << random.below(8), 1 << random.below(5));
+    let start = random.below(100_000);
+    let gateway =
+        Gateway::start(settings, &bytes_of(cell), &bytes_of(plant), records, lines, start).expect("good settings and sizes");
+    let second = Second::cold_start(second_settings(&settings), Sides { cell, plant }, records, lines, start);
+    (gateway, second)
+}
+
 /// A packet, now and then one that is refused.
-fn packet(random: &mut Random) -> Vec<u8> {
+pub fn packet(random: &mut Random) -> Vec<u8> {
     let (source, destination) = (address(random), address(random));
     let ports = (random.pick(&[80, 502]), random.pick(&[80, 502]));
     let mut bytes = match random.below(4) {
@@ -61,7 +73,7 @@ fn packet(random: &mut Random) -> Vec<u8> {
 }
 
 /// A time: mostly the same second or one soon after, at times a long gap, and now and then one before the clock.
-fn later(random: &mut Random, clock: u32) -> u32 {
+pub fn later(random: &mut Random, clock: u32) -> u32 {
     match random.below(200) {
         0 => clock.wrapping_sub(1),
         1 => clock + random.below(200),
@@ -87,13 +99,7 @@ fn told(answer: Result<Answer, Refusal>) -> (u8, u8, Option<i64>, Option<u32>) {
 /// One gateway of each, from a seed, over so many calls. Answers the totals of the verdicts.
 fn run(seed: u64, calls: u32) -> [u32; 7] {
     let random = &mut Random(seed);
-    let settings = settings(random);
-    let (cell, plant) = (list(random), list(random));
-    let (records, lines) = (16 << random.below(8), 1 << random.below(5));
-    let start = random.below(100_000);
-    let mut gateway =
-        Gateway::start(settings, &bytes_of(cell), &bytes_of(plant), records, lines, start).expect("good settings and sizes");
-    let mut second = Second::cold_start(second_settings(&settings), Sides { cell, plant }, records, lines, start);
+    let (mut gateway, mut second) = both(random);
     let mut totals = [0; 7];
     let mut by_hand = [0; 7];
     for call in 0..calls {

@@ -5,10 +5,10 @@ use second::samples;
 use spritgrommet::{decrypt, encrypt, tally, winner};
 use spritgrommet::{Answer, Capture, CaptureWriter, Gateway, Record, Refusal, Settings, Side, Verdict};
 
-const CELL: [u8; 5] = [10, 0, 0, 0, 8];
-const PLANT: [u8; 5] = [192, 168, 0, 0, 16];
+pub const CELL: [u8; 5] = [10, 0, 0, 0, 8];
+pub const PLANT: [u8; 5] = [192, 168, 0, 0, 16];
 
-fn start(settings: Settings, records: usize, lines: usize) -> Result<Gateway, Refusal> {
+pub fn start(settings: Settings, records: usize, lines: usize) -> Result<Gateway, Refusal> {
     Gateway::start(settings, &CELL, &PLANT, records, lines, 100)
 }
 
@@ -123,14 +123,14 @@ fn captures() {
     let records = [(5, samples::ethernet(&[])), (6, vec![1, 2, 3]), (7, vec![])];
     for little in [true, false] {
         let bytes = samples::capture(little, &records);
-        let read: Vec<_> = Capture::open(&bytes).ok().expect("a good header").collect();
+        let read: Vec<_> = Capture::open(&bytes).expect("a good header").collect();
         assert_eq!(read.len(), 3);
         for (read, (seconds, frame)) in read.into_iter().zip(&records) {
             let read = read.expect("whole records");
             assert_eq!((read.seconds, read.microseconds), (*seconds, 999_999));
             assert_eq!((read.original as usize, read.frame), (frame.len(), &frame[..]));
         }
-        let cut: Vec<_> = Capture::open(&bytes[..bytes.len() - 1]).ok().expect("a good header").collect();
+        let cut: Vec<_> = Capture::open(&bytes[..bytes.len() - 1]).expect("a good header").collect();
         assert_eq!(cut.len(), 3);
         assert_eq!(cut[2], Err(Refusal(8)));
     }

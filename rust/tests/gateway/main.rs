@@ -1,4 +1,5 @@
-//! The archive, linked and called: each call by itself, runs beside the second gateway, and memory that may only be read.
+//! The archive, linked and called: each call by itself, runs beside the second gateway, memory that may only be read, and why packets are
+//! dropped.
 
 mod against_second;
 mod calls;
@@ -7,3 +8,4 @@ mod quiet;
 #[allow(dead_code)]
 #[path = "../../../compare/src/random.rs"]
 mod random;
+mod why;

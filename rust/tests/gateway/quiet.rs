@@ -20,7 +20,7 @@ extern "C" {
 }
 
 /// Whole pages of memory, and a connection table in them.
-struct Records {
+pub struct Records {
     room: *mut c_void,
     bytes: usize,
     start: *mut u8,
@@ -29,7 +29,7 @@ struct Records {
 
 impl Records {
     /// A table that starts so many bytes after its first page does.
-    fn after(skipped: usize, records: &[u8]) -> Records {
+    pub fn after(skipped: usize, records: &[u8]) -> Records {
         let bytes = (skipped + records.len()).next_multiple_of(PAGE);
         // SAFETY: new memory, as long as what is skipped and the records, or longer.
         let room = unsafe { mmap(null_mut(), bytes, READ | WRITE, PRIVATE_AND_OF_NO_FILE, -1, 0) };
@@ -41,18 +41,18 @@ impl Records {
     }
 
     /// From now on these pages may only be read.
-    fn only_read(&self, pages: Range<usize>) {
+    pub fn only_read(&self, pages: Range<usize>) {
         assert!(pages.end * PAGE <= self.bytes);
         // SAFETY: the pages are this table's own.
         let done = unsafe { mprotect(self.room.byte_add(pages.start * PAGE), pages.len() * PAGE, READ) };
         assert_eq!(done, 0, "the pages could not be protected");
     }
 
-    fn pages(&self) -> usize {
+    pub fn pages(&self) -> usize {
         self.bytes / PAGE
     }
 
-    fn values(&self) -> &[u8] {
+    pub fn values(&self) -> &[u8] {
         // SAFETY: the table's own memory, which may always be read.
         unsafe { std::slice::from_raw_parts(self.start, self.length) }
     }

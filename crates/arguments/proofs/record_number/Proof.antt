@@ -1,6 +1,6 @@
 -- `arguments::record_number` meets its contract. So many digits were read; the measure is how many are left.
 -- Assumes nothing.
-use Prim.Native.Nat.{_+_, _-_, _*_, _^_, _≤_, _<_}
+use Prim.Native.Nat.{_-_, _^_, _≤_, _<_}
 use denote.Ref.{now}
 use lib.ListN.{length, getD, drop}
 use mathlib.Core.Path.{_≡_, refl, sym, _∙_}

@@ -1,6 +1,5 @@
 -- `gateway::met_at` meets its contract: the record aged, the count decayed.
 -- Assumes nothing.
-use mathlib.Core.Path.{_∙_}
 use denote.Ref.{now}
 use mir.Syntax.{w16}
 use mir.ValLaws.{toZ-ofZ}

@@ -4,7 +4,6 @@ use mathlib.Core.Bool.{not, Bool·not-not}
 use mathlib.Core.Path.{ap, _∙_}
 use borrow.Author.Needs.{needs}
 use Rattle.verdicts.specs.Verdicts.{isForwarded}
-use Rattle.verdicts.specs.declared.Verdict.{Verdict}
 use Rattle.reasons.proofs.passes.Statement.{statement}
 use Rattle.reasons.proofs.passes.Tie as tie
 
