@@ -132,8 +132,8 @@ fn fact_sentences(dropped: &Dropped) -> [String; 4] {
     let names: Vec<&str> = kinds.into_iter().map(name).collect();
     [
         format!("  - the count: below {}", dropped.threshold),
-        "  - the plant-to-cell mark: set (the plant has spoken on this connection lately)".into(),
-        "  - the cell-to-plant mark: set (the cell was let through on this connection lately)"
+        "  - the plant-to-cell mark: set (the plant has spoken on this connection lately, other than to close it)".into(),
+        "  - the cell-to-plant mark: set (the cell was let through on this connection lately, other than to close it)"
             .into(),
         format!("  - the kind: {}", either(&names)),
     ]

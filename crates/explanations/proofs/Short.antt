@@ -226,17 +226,17 @@ module _ (report : Report) (number : report .number < 2 ^ 64) (seconds : report 
       let neither = said-short "  It answers or closes a connection, and this connection has neither mark.\n" 75 refl in
       omega (arith, hygiene, neither, length-append (said report "  It was dropped as hygiene, not as blocked: the count of %a is %c, and T is %t.\n") (said report "  It answers or closes a connection, and this connection has neither mark.\n"))
 
-  ways-short : length (waysThrough report) ≤ 321
+  ways-short : length (waysThrough report) ≤ 369
   unfolding text widths
   ways-short =
       let ways = said-short "  Any one of these alone would have let it through:\n" 52 refl in
       let count = text "  - the count: below %t\n" in
-      let plant = text "  - the plant-to-cell mark: set (the plant has spoken on this connection lately)\n" in
-      let cell = text "  - the cell-to-plant mark: set (the cell was let through on this connection lately)\n" in
+      let plant = text "  - the plant-to-cell mark: set (the plant has spoken on this connection lately, other than to close it)\n" in
+      let cell = text "  - the cell-to-plant mark: set (the cell was let through on this connection lately, other than to close it)\n" in
       let kind = text "  - the kind: %w\n" in
       omega (arith, ways, facts-short count plant cell kind, length-append (said report "  Any one of these alone would have let it through:\n") (ofFacts report count plant cell kind))
 
-  drop-short : length (dropText report) ≤ 1464
+  drop-short : length (dropText report) ≤ 1512
   drop-short =
       let blocking = isBlocking (report .drop .verdict) in
       omega (
@@ -268,16 +268,16 @@ refused-short number =
     (or-else (eqb number 6) _ (record { few = omega arith })
     (record { few = omega arith })))
 
--- what is told of a record has room in 1,464 bytes
+-- what is told of a record has room in 1,512 bytes
 pub asked-short : (wanted number seconds : ℕ) (asked : Asked) → number < 2 ^ 64 → seconds < 2 ^ 32 → AskedSized asked
-    → length (askedText wanted number seconds asked) ≤ 1464
+    → length (askedText wanted number seconds asked) ≤ 1512
 unfolding text
 asked-short wanted number seconds Nothing n s sized = omega arith
 asked-short wanted number seconds (Why explanation) n s sized =
     or-else (isTold wanted number explanation) (explanationText number seconds explanation) {y = []}
     (record { few = go explanation sized }) (record { few = omega arith }) .few
   where
-    go : (e : Explanation) → ExplanationSized e → length (explanationText number seconds e) ≤ 1464
+    go : (e : Explanation) → ExplanationSized e → length (explanationText number seconds e) ≤ 1512
     go (why.Refused refusal) small =
         omega (
           arith,

@@ -61,8 +61,8 @@ waysThrough report =
     said report "  Any one of these alone would have let it through:\n"
     ++ ofFacts report
     (text "  - the count: below %t\n")
-    (text "  - the plant-to-cell mark: set (the plant has spoken on this connection lately)\n")
-    (text "  - the cell-to-plant mark: set (the cell was let through on this connection lately)\n")
+    (text "  - the plant-to-cell mark: set (the plant has spoken on this connection lately, other than to close it)\n")
+    (text "  - the cell-to-plant mark: set (the cell was let through on this connection lately, other than to close it)\n")
     (text "  - the kind: %w\n")
 
 abbrev pub dropText : Report → List ℕ

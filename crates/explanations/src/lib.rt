@@ -282,8 +282,8 @@ fn put_ways_through(room: &mut [u8], at: usize, report: Report) -> usize
         room,
         next,
         b"  - the count: below %t\n",
-        b"  - the plant-to-cell mark: set (the plant has spoken on this connection lately)\n",
-        b"  - the cell-to-plant mark: set (the cell was let through on this connection lately)\n",
+        b"  - the plant-to-cell mark: set (the plant has spoken on this connection lately, other than to close it)\n",
+        b"  - the cell-to-plant mark: set (the cell was let through on this connection lately, other than to close it)\n",
         b"  - the kind: %w\n",
         report,
     )

@@ -131,9 +131,9 @@ mod tests {
          openings do not go through even so.\n";
     const COUNT: &str = "  - the count: below 10\n";
     const PLANT_TO_CELL: &str =
-        "  - the plant-to-cell mark: set (the plant has spoken on this connection lately)\n";
+        "  - the plant-to-cell mark: set (the plant has spoken on this connection lately, other than to close it)\n";
     const CELL_TO_PLANT: &str =
-        "  - the cell-to-plant mark: set (the cell was let through on this connection lately)\n";
+        "  - the cell-to-plant mark: set (the cell was let through on this connection lately, other than to close it)\n";
 
     /// Twelve plant machines poll a cell machine, and two hours later it polls them: its answers of
     /// old, but fresh contacts by now.
