@@ -149,7 +149,7 @@ fn either(names: &[&str]) -> String {
 
 fn forwarded_sentence(verdict: Verdict) -> String {
     let how = match verdict {
-        Verdict::NotOurs => ": it is not between the cell and the plant",
+        Verdict::NotOurs => ": it is no IPv4 packet between the cell and the plant",
         Verdict::NothingCounted => ", and nothing was counted",
         Verdict::CreditOfOne => ", with a credit of one",
         Verdict::CreditOfTwo => ", with a credit of two",

@@ -78,7 +78,7 @@ forwardedText Hygiene = text " 5\n"
 forwardedText Blocked = text " 6\n"
 
 abbrev pub notOursText : List ℕ
-notOursText = text " 0\n  It was forwarded: it is not between the cell and the plant (verdict 0).\n"
+notOursText = text " 0\n  It was forwarded: it is no IPv4 packet between the cell and the plant (verdict 0).\n"
 
 -- a record of the program is refused by 4, 5 or 6 (`by-four-or-header`, replay/proofs/SetUp)
 unfoldable pub refusedWords : ℕ → List ℕ

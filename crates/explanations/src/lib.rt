@@ -384,7 +384,7 @@ fn put_explanation(
             lines::put_text(
                 room,
                 next,
-                b" 0\n  It was forwarded: it is not between the cell and the plant (verdict 0).\n",
+                b" 0\n  It was forwarded: it is no IPv4 packet between the cell and the plant (verdict 0).\n",
             )
         }
         Explanation::Forwarded(verdict) => {

@@ -237,7 +237,7 @@ module _ (output : Output) (l : List ℕ) (big : Bool) (put : ℕ) (room : List 
   fed-in-turn (suc turns) = one-turn-more turns (fed-in-turn turns)
 
   -- so it is of one call, whatever room it has: the first records at hand are told, and none is cut or left out. The premise is what the
-  -- types of an answer's parts say, for lines.
+  -- types of an answer's and an explanation's parts say, for lines and for blocks.
   pub fed-some : (t : Told) (at : ℕ) → put + length (t .bytes) ≤ length room → AllSized output l (courseOf l (cursor at) .records) t
       → FedSome t at (fed output (length l) l big (sofar t at true false))
   fed-some t at fits sized = fed-in-turn (length l) t at (omega arith) fits sized

@@ -132,8 +132,8 @@ module _ (threshold : ℕ) (facts : Facts) where
     pub cell : reported .«cell_mark» ≡ true → (value : Bool) × (passes threshold (withCell facts value) ≡ true)
     pub kind : reported .kind ≡ true → (value : Kind) × (passes threshold (withKind facts value) ≡ true)
 
-  -- and necessary: with a fact that is not, none of its values does that
-  pub record Necessary (reported : Reported) : Type 0 where
+  -- and no other is: every fact with a value that does that is reported
+  pub record Complete (reported : Reported) : Type 0 where
     pub count : (value : ℤ) → Held value → passes threshold (withCount facts value) ≡ true → reported .count ≡ true
     pub plant : (value : Bool) → passes threshold (withPlant facts value) ≡ true → reported .«plant_mark» ≡ true
     pub cell : (value : Bool) → passes threshold (withCell facts value) ≡ true → reported .«cell_mark» ≡ true
@@ -149,9 +149,9 @@ module _ (threshold : ℕ) (facts : Facts) where
         kind = at-some _ kindValues;
       }
 
-  pub necessary : Necessary (reportedOn threshold facts)
+  pub complete : Complete (reportedOn threshold facts)
   unfolding reportedOn
-  necessary =
+  complete =
       record {
         count = λ value h e.
             let at = held-at value h in

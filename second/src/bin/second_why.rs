@@ -259,7 +259,8 @@ mod tests {
     fn a_record_that_is_asked_for() {
         let input = capture(true, &of_every_sort());
         let too_soon = "was refused, and not judged: its header bytes end too soon (refusal 5).";
-        let not_ours = "was forwarded: it is not between the cell and the plant (verdict 0).";
+        let not_ours =
+            "was forwarded: it is no IPv4 packet between the cell and the plant (verdict 0).";
         for (number, word, sentence) in [
             (1, "4", "was forwarded as a fresh contact (verdict 4)."),
             (2, "3", "was forwarded, with a credit of two (verdict 3)."),
