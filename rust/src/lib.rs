@@ -1,8 +1,8 @@
-//! The proved gateway, for programs in Rust: a safe wrapper over the archive that `rt staticlib embed` writes. Nothing is decided here;
+//! The proved gateway, for programs in Rust: a safe wrapper over the archives that `rt staticlib embed` and `rt staticlib embed_why` write. Nothing is decided here;
 //! include/spritgrommet.h says what each call does in document 01's words.
 //!
-//! `rt staticlib embed`, and then in a program's Cargo.toml `spritgrommet = { path = ".../rust" }`. The archive is looked for in
-//! target/staticlib, or in the folder that SPRITGROMMET_LIB names. `cargo test` here needs it too.
+//! Both commands, and then in a program's Cargo.toml `spritgrommet = { path = ".../rust" }`. They are looked for in
+//! target/staticlib, or in the folder that SPRITGROMMET_LIB names. `cargo test` here needs them too.
 
 mod capture;
 pub mod raw;

@@ -10,11 +10,6 @@ use Rattle.rulings.specs.declared.answers.Replacement.the-variants.{None, Addre
 use Rattle.rulings.specs.declared.answers.Answer.{Answer}
 use Rattle.rulings.specs.declared.answers.Answer.the-variants.{Refused, NotOurs, Judged}
 use Rattle.verdicts.specs.Verdicts.{numberOf}
-use Rattle.packet.specs.declared.kinds.Kind.{Kind}
-use Rattle.packet.specs.declared.kinds.Kind.the-variants.{Udp, Opening, SynAck, Closing, Plain}
-use Rattle.reasons.specs.declared.Drop.{Drop}
-use Rattle.reasons.specs.declared.Explanation.{Explanation}
-use Rattle.reasons.specs.declared.Explanation.the-variants as why
 use Rattle.sides.specs.declared.Side.{Side}
 use Rattle.sides.specs.declared.Side.the-variants.{Cell, Plant, Neither}
 use Rattle.sides.specs.declared.Winning.{Winning}
@@ -28,7 +23,6 @@ use Rattle.capture.specs.Writing.{Put}
 use Rattle.gateway.specs.Calls.{After}
 use Rattle.tally.specs.Tally.{tallied, verdictNumbered}
 use Rattle.embed.specs.declared.plain.PlainAnswer.{PlainAnswer}
-use Rattle.embed.specs.declared.plain.PlainReason.{PlainReason}
 use Rattle.embed.specs.declared.plain.PlainWinner.{PlainWinner}
 use Rattle.embed.specs.declared.plain.PlainOpening.{PlainOpening}
 use Rattle.embed.specs.declared.plain.PlainNext.{PlainNext}
@@ -49,58 +43,6 @@ abbrev pub plainAnswer : Answer → PlainAnswer
 plainAnswer (Refused number) = record { refusal = number; verdict = 0; count = pos 0; replaced = 0; address = 0 }
 plainAnswer NotOurs = record { refusal = 0; verdict = 0; count = pos 0; replaced = 0; address = 0 }
 plainAnswer (Judged verdict count replaced) = plainJudged (numberOf verdict) count replaced
-
--- ---- why a packet was dropped
--- "The kind's values are UDP, opening, SYN+ACK, closing and plain."
-abbrev pub kindNumber : Kind → ℕ
-kindNumber Udp = 0
-kindNumber Opening = 1
-kindNumber SynAck = 2
-kindNumber Closing = 3
-kindNumber Plain = 4
-
--- "Verdicts 0 to 4 get the verdict alone", and a refusal its number alone
-abbrev pub verdictAlone : ℕ → ℕ → PlainReason
-verdictAlone refusal verdict =
-    record {
-      refusal = refusal;
-      verdict = verdict;
-      kind = 0;
-      «plant_mark» = false;
-      «cell_mark» = false;
-      count = pos 0;
-      threshold = 0;
-      «by_count» = false;
-      «by_plant_mark» = false;
-      «by_cell_mark» = false;
-      «by_kind» = false;
-      «cell_entry» = 0;
-      «plant_entry» = 0;
-    }
-
-abbrev pub plainDrop : Drop → PlainReason
-plainDrop drop =
-    record {
-      refusal = 0;
-      verdict = numberOf (drop .verdict);
-      kind = kindNumber (drop .header .transport .kind);
-      «plant_mark» = drop .marks .plant;
-      «cell_mark» = drop .marks .cell;
-      count = drop .count;
-      threshold = drop .threshold;
-      «by_count» = drop .reported .count;
-      «by_plant_mark» = drop .reported .«plant_mark»;
-      «by_cell_mark» = drop .reported .«cell_mark»;
-      «by_kind» = drop .reported .kind;
-      «cell_entry» = drop .«cell_entry»;
-      «plant_entry» = drop .«plant_entry»;
-    }
-
-abbrev pub plainReason : Explanation → PlainReason
-plainReason (why.Refused number) = verdictAlone number 0
-plainReason why.NotOurs = verdictAlone 0 0
-plainReason (why.Forwarded verdict) = verdictAlone 0 (numberOf verdict)
-plainReason (why.Dropped drop) = plainDrop drop
 
 -- ---- the tally
 -- the verdict that an answer in plain numbers tells, whoever wrote it

@@ -10,9 +10,8 @@ ghost use Rattle.capture.specs.Capture.{openedOf, nextOf};
 ghost use Rattle.capture.specs.Format.{contentOf};
 ghost use Rattle.capture.specs.Writing.{headerPut, recordPut};
 ghost use Rattle.gateway.specs.Calls.{afterOf, stateOf, refusalIn, started, passed, judged};
-ghost use Rattle.gateway.specs.Why.{whyOf};
-ghost use Rattle.frames.specs.Frames.{frameJudged, frameExplained};
-ghost use Rattle.embed.specs.Plain.{plainly, plainAnswer, plainReason, plainWinner, plainOpening, plainNext, plainPutOf, plainPut, verdictIn, totalsAfter};
+ghost use Rattle.frames.specs.Frames.{frameJudged};
+ghost use Rattle.embed.specs.Plain.{plainly, plainAnswer, plainWinner, plainOpening, plainNext, plainPutOf, plainPut, verdictIn, totalsAfter};
 
 pub mod plain;
 
@@ -21,7 +20,6 @@ use frames::Inside;
 use plain::PlainAnswer;
 use plain::PlainNext;
 use plain::PlainOpening;
-use plain::PlainReason;
 use plain::PlainWinner;
 use plain::PlainWritten;
 use rulings::answers::Answer;
@@ -116,46 +114,6 @@ pub extern "C" fn spritgrommet_judge_frame(
         }
         Inside::Other => plain::of_answer(Answer::NotOurs),
     }
-}
-
-// Why a packet, from its IPv4 header on, that comes at a time is dropped. Tables and clock are only read.
-#[no_mangle]
-pub extern "C" fn spritgrommet_why(
-    set: Settings,
-    cell: &[u8],
-    plant: &[u8],
-    records: &[u8],
-    tags: &[u32],
-    counts: &[i16],
-    clock: &u32,
-    time: u32,
-    packet: &[u8],
-) -> PlainReason
-    ensures { λ r. ⌜ r ≡ plainReason (whyOf document01 set (now (cell .entry)) (now (plant .entry)) time (now (packet .entry))
-        (stateOf (now (records .entry)) (now (tags .entry)) (now (counts .entry)) (now (clock .entry)))) ⌝ }
-{
-    let told = gateway::why(set, cell, plant, records, tags, counts, clock, time, packet);
-    plain::of_explanation(told)
-}
-
-// Why what an Ethernet frame that comes at a time carries is dropped. Tables and clock are only read.
-#[no_mangle]
-pub extern "C" fn spritgrommet_why_frame(
-    set: Settings,
-    cell: &[u8],
-    plant: &[u8],
-    records: &[u8],
-    tags: &[u32],
-    counts: &[i16],
-    clock: &u32,
-    time: u32,
-    frame: &[u8],
-) -> PlainReason
-    ensures { λ r. ⌜ r ≡ plainReason (frameExplained document01 set (now (cell .entry)) (now (plant .entry)) time (now (frame .entry))
-        (stateOf (now (records .entry)) (now (tags .entry)) (now (counts .entry)) (now (clock .entry)))) ⌝ }
-{
-    let told = frames::why(set, cell, plant, records, tags, counts, clock, time, frame);
-    plain::of_explanation(told)
 }
 
 // The entry of the side lists that decides on an address: whose list has it, and its place there.

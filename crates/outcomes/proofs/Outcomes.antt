@@ -16,7 +16,6 @@ use Rattle.counts.proofs.is_empty.Reads as counts-is-empty
 use Rattle.counts.proofs.lowered.Reads as counts-lowered
 use Rattle.counts.proofs.raised.Reads as counts-raised
 use Rattle.embed.proofs.plain.of_answer.Reads as embed-plain-of-answer
-use Rattle.embed.proofs.plain.of_explanation.Reads as embed-plain-of-explanation
 use Rattle.embed.proofs.plain.of_opened.Reads as embed-plain-of-opened
 use Rattle.embed.proofs.plain.of_reading.Reads as embed-plain-of-reading
 use Rattle.embed.proofs.plain.of_reply.Reads as embed-plain-of-reply
@@ -34,10 +33,11 @@ use Rattle.embed.proofs.spritgrommet_pass.Reads as embed-spritgrommet-pass
 use Rattle.embed.proofs.spritgrommet_put_header.Reads as embed-spritgrommet-put-header
 use Rattle.embed.proofs.spritgrommet_put_record.Reads as embed-spritgrommet-put-record
 use Rattle.embed.proofs.spritgrommet_tally.Reads as embed-spritgrommet-tally
-use Rattle.embed.proofs.spritgrommet_why.Reads as embed-spritgrommet-why
-use Rattle.embed.proofs.spritgrommet_why_frame.Reads as embed-spritgrommet-why-frame
 use Rattle.embed.proofs.spritgrommet_winner.Reads as embed-spritgrommet-winner
 use Rattle.embed.specs.Plain.{plainPutOf}
+use Rattle.embed_why.proofs.plain.of_explanation.Reads as embed-why-plain-of-explanation
+use Rattle.embed_why.proofs.spritgrommet_why.Reads as embed-why-spritgrommet-why
+use Rattle.embed_why.proofs.spritgrommet_why_frame.Reads as embed-why-spritgrommet-why-frame
 use Rattle.endings.proofs.one_more.Reads as endings-one-more
 use Rattle.endings.proofs.put_ending.Reads as endings-put-ending
 use Rattle.endings.proofs.put_refused_header.Reads as endings-put-refused-header
@@ -407,12 +407,6 @@ embed-spritgrommet-judge-one κs a x y s t p q = same p q
 pub embed-spritgrommet-judge-frame-one : (κs : _) (a : _) → One (embed-spritgrommet-judge-frame.Learnt κs a) (λ x s. afterOf x (now (s .1 .1 .1 .0)) (now (s .1 .1 .1 .1 .0)) (now (s .1 .1 .1 .1 .1 .0)) (now (s .1 .1 .1 .1 .1 .1 .0)))
 embed-spritgrommet-judge-frame-one κs a x y s t p q = same p q
 
-pub embed-spritgrommet-why-one : (κs : _) (a : _) → One (embed-spritgrommet-why.Learnt κs a) (λ x s. x)
-embed-spritgrommet-why-one κs a x y s t p q = same p q
-
-pub embed-spritgrommet-why-frame-one : (κs : _) (a : _) → One (embed-spritgrommet-why-frame.Learnt κs a) (λ x s. x)
-embed-spritgrommet-why-frame-one κs a x y s t p q = same p q
-
 pub embed-spritgrommet-winner-one : (κs : _) (a : _) → One (embed-spritgrommet-winner.Learnt κs a) (λ x s. x)
 embed-spritgrommet-winner-one κs a x y s t p q = same p q
 
@@ -455,8 +449,14 @@ embed-plain-of-opened-one κs a x y s t p q = same p q
 pub embed-plain-of-reading-one : (κs : _) (a : _) → One (embed-plain-of-reading.Learnt κs a) (λ x s. x)
 embed-plain-of-reading-one κs a x y s t p q = same p q
 
-pub embed-plain-of-explanation-one : (κs : _) (a : _) → One (embed-plain-of-explanation.Learnt κs a) (λ x s. x)
-embed-plain-of-explanation-one κs a x y s t p q = same p q
+pub embed-why-spritgrommet-why-one : (κs : _) (a : _) → One (embed-why-spritgrommet-why.Learnt κs a) (λ x s. x)
+embed-why-spritgrommet-why-one κs a x y s t p q = same p q
+
+pub embed-why-spritgrommet-why-frame-one : (κs : _) (a : _) → One (embed-why-spritgrommet-why-frame.Learnt κs a) (λ x s. x)
+embed-why-spritgrommet-why-frame-one κs a x y s t p q = same p q
+
+pub embed-why-plain-of-explanation-one : (κs : _) (a : _) → One (embed-why-plain-of-explanation.Learnt κs a) (λ x s. x)
+embed-why-plain-of-explanation-one κs a x y s t p q = same p q
 
 -- programs::replay is left out: it answers nothing, is lent nothing, and what it reads and writes no contract can say
 

@@ -3,8 +3,8 @@
 use mir.Syntax.{w16}
 use mir.ValLaws.{toZ-ofZ}
 use borrow.Author.Needs.{needs}
-use Rattle.embed.proofs.plain.of_drop.Statement.{statement}
-use Rattle.embed.proofs.plain.of_drop.Tie as tie
+use Rattle.embed_why.proofs.plain.of_drop.Statement.{statement}
+use Rattle.embed_why.proofs.plain.of_drop.Tie as tie
 
 number-requires : tie.Need-number-requires
 number-requires c κs = search needs

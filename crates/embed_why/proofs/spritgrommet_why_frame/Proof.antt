@@ -1,10 +1,10 @@
--- `embed::spritgrommet_why_frame` meets its contract: that of the frame, in plain numbers.
+-- `embed_why::spritgrommet_why_frame` meets its contract: that of the frame, in plain numbers.
 -- Assumes nothing.
 use mathlib.Core.Path.{ap, _∙_}
-use Rattle.embed.specs.Plain.{plainReason}
+use Rattle.embed_why.specs.Plain.{plainReason}
 use borrow.Author.Needs.{needs}
-use Rattle.embed.proofs.spritgrommet_why_frame.Statement.{statement}
-use Rattle.embed.proofs.spritgrommet_why_frame.Tie as tie
+use Rattle.embed_why.proofs.spritgrommet_why_frame.Statement.{statement}
+use Rattle.embed_why.proofs.spritgrommet_why_frame.Tie as tie
 
 why-requires : tie.Need-why-requires
 why-requires c κs = search needs

@@ -1,10 +1,10 @@
 -- `plain::of_explanation` meets its contract: each arm is the definition's case.
 -- Assumes nothing.
 use mathlib.Core.Path.{_∙_, ap}
-use Rattle.embed.specs.Plain.{verdictAlone}
+use Rattle.embed_why.specs.Plain.{verdictAlone}
 use borrow.Author.Needs.{needs}
-use Rattle.embed.proofs.plain.of_explanation.Statement.{statement}
-use Rattle.embed.proofs.plain.of_explanation.Tie as tie
+use Rattle.embed_why.proofs.plain.of_explanation.Statement.{statement}
+use Rattle.embed_why.proofs.plain.of_explanation.Tie as tie
 
 enum-known-explanation : tie.Need-enum-known-explanation
 enum-known-explanation c = search needs

@@ -1,0 +1,63 @@
+-- Why a packet was dropped, as plain numbers, for programs in C and Rust. A number that an answer does not have is 0.
+-- Assumes nothing.
+use mathlib.Core.Bool.{false}
+use Prim.Native.Nat.{ℕ}
+use lib.IntN.{pos}
+use Rattle.packet.specs.declared.kinds.Kind.{Kind}
+use Rattle.packet.specs.declared.kinds.Kind.the-variants.{Udp, Opening, SynAck, Closing, Plain}
+use Rattle.verdicts.specs.Verdicts.{numberOf}
+use Rattle.reasons.specs.declared.Drop.{Drop}
+use Rattle.reasons.specs.declared.Explanation.{Explanation}
+use Rattle.reasons.specs.declared.Explanation.the-variants as why
+use Rattle.embed_why.specs.declared.plain.PlainReason.{PlainReason}
+
+-- "The kind's values are UDP, opening, SYN+ACK, closing and plain."
+abbrev pub kindNumber : Kind → ℕ
+kindNumber Udp = 0
+kindNumber Opening = 1
+kindNumber SynAck = 2
+kindNumber Closing = 3
+kindNumber Plain = 4
+
+-- "Verdicts 0 to 4 get the verdict alone", and a refusal its number alone
+abbrev pub verdictAlone : ℕ → ℕ → PlainReason
+verdictAlone refusal verdict =
+    record {
+      refusal = refusal;
+      verdict = verdict;
+      kind = 0;
+      «plant_mark» = false;
+      «cell_mark» = false;
+      count = pos 0;
+      threshold = 0;
+      «by_count» = false;
+      «by_plant_mark» = false;
+      «by_cell_mark» = false;
+      «by_kind» = false;
+      «cell_entry» = 0;
+      «plant_entry» = 0;
+    }
+
+abbrev pub plainDrop : Drop → PlainReason
+plainDrop drop =
+    record {
+      refusal = 0;
+      verdict = numberOf (drop .verdict);
+      kind = kindNumber (drop .header .transport .kind);
+      «plant_mark» = drop .marks .plant;
+      «cell_mark» = drop .marks .cell;
+      count = drop .count;
+      threshold = drop .threshold;
+      «by_count» = drop .reported .count;
+      «by_plant_mark» = drop .reported .«plant_mark»;
+      «by_cell_mark» = drop .reported .«cell_mark»;
+      «by_kind» = drop .reported .kind;
+      «cell_entry» = drop .«cell_entry»;
+      «plant_entry» = drop .«plant_entry»;
+    }
+
+abbrev pub plainReason : Explanation → PlainReason
+plainReason (why.Refused number) = verdictAlone number 0
+plainReason why.NotOurs = verdictAlone 0 0
+plainReason (why.Forwarded verdict) = verdictAlone 0 (numberOf verdict)
+plainReason (why.Dropped drop) = plainDrop drop
