@@ -1,5 +1,5 @@
-/* The gateway for programs in C and C++: link target/staticlib/libembed.a, which `rt staticlib embed` proves and writes. Who asks why a packet
- * is dropped (`spritgrommet_why` and what is made of it) also links libembed_why.a beside it, by `rt staticlib embed_why`.
+/* The gateway for programs in C and C++: link target/staticlib/libembed.a, which `rt staticlib embed` proves and writes. Who asks why a
+ * packet is dropped (`spritgrommet_why` and what is made of it) also links libembed_why.a beside it, by `rt staticlib embed_why`.
  *
  * A gateway stands between a cell, which may be infected, and the plant. It judges each packet, and stops a machine of the cell that
  * keeps trying strangers. The caller owns all memory: settings, two side lists, the tables and the clock. A call that is refused changes
@@ -8,7 +8,7 @@
  *
  * What each call answers is proved for every input of the types below. What the prover cannot see is the caller's side of the boundary:
  * each pointer is aligned for its elements and leads to as many as the length beside it says, what is written overlaps nothing else that
- * the call is lent, and none is null (a length of 0 needs a pointer too, to anything). The archive is for x86-64 Linux; use the header
+ * the call is lent, and none is null (a length of 0 needs a pointer too, to anything). The archives are for x86-64 Linux; use the header
  * that stands beside it.
  *
  * Refusals: 0 where the call is not refused, and else
@@ -137,10 +137,11 @@ struct spritgrommet_written {
     size_t next;     /* where the next record goes */
 };
 
-/* ---- the functions of the archive, over plain numbers and lent memory ---- */
+/* ---- the functions of the archives, over plain numbers and lent memory: two of libembed_why.a, which say so, and the others of
+ * libembed.a ---- */
 
 /* The factory settings: T 5, for a cell of a dozen machines, Cmin -20, Dmiss 60, Dconn 10, keys all zero. A program that wants another T
- * sets it; bin/verdicts and bin/forwarded have 10. */
+ * sets it; bin/verdicts, bin/forwarded and bin/why have 10. */
 struct spritgrommet_settings spritgrommet_factory(void);
 
 /* `spritgrommet_start` below, over its parts. */
@@ -163,13 +164,13 @@ struct spritgrommet_answer spritgrommet_judge_frame(struct spritgrommet_settings
                                                     uint32_t *tags, size_t tag_count, int16_t *counts, size_t count_count,
                                                     uint32_t *clock, uint32_t time, const uint8_t *frame, size_t frame_length);
 
-/* `spritgrommet_packet_reason` below, over its parts. Tables and clock are only read. */
+/* `spritgrommet_packet_reason` below, over its parts, in libembed_why.a. Tables and clock are only read. */
 struct spritgrommet_reason spritgrommet_why(struct spritgrommet_settings settings, const uint8_t *cell, size_t cell_length,
                                             const uint8_t *plant, size_t plant_length, const uint8_t *records, size_t record_count,
                                             const uint32_t *tags, size_t tag_count, const int16_t *counts, size_t count_count,
                                             const uint32_t *clock, uint32_t time, const uint8_t *packet, size_t packet_length);
 
-/* `spritgrommet_frame_reason` below, over its parts. Tables and clock are only read. */
+/* `spritgrommet_frame_reason` below, over its parts, in libembed_why.a. Tables and clock are only read. */
 struct spritgrommet_reason spritgrommet_why_frame(struct spritgrommet_settings settings, const uint8_t *cell, size_t cell_length,
                                                   const uint8_t *plant, size_t plant_length, const uint8_t *records, size_t record_count,
                                                   const uint32_t *tags, size_t tag_count, const int16_t *counts, size_t count_count,
