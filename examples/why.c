@@ -1,0 +1,29 @@
+/* Asks a gateway why it would drop a packet: a reset from the cell that belongs to no connection, and prints the verdict and the facts that
+ * would have let it through. docs/WHY.md says what they mean.
+ *   rt staticlib embed && rt staticlib embed_why
+ *   cc -Iinclude examples/why.c target/staticlib/libembed.a target/staticlib/libembed_why.a -o why && ./why */
+#include "spritgrommet.h"
+
+#include <stdio.h>
+
+int main(void) {
+    static uint8_t records[16];
+    static uint32_t tags[4];
+    static int16_t counts[4];
+    static const uint8_t cell[] = {10, 0, 0, 0, 8};
+    static const uint8_t plant[] = {192, 168, 0, 0, 16};
+    /* RST from 10.0.0.1 port 40000 to 192.168.0.1 port 80: an IPv4 header of 20 bytes, and one of TCP. */
+    static const uint8_t reset[] = {0x45, 0, 0, 40, 0, 0, 0, 0, 64, 6, 0, 0, 10,   0, 0, 1, 192, 168, 0, 1,
+                                    156,  64, 0, 80, 0, 0, 0, 0, 0,  0, 0, 0, 0x50, 4, 0, 0, 0,   0,   0, 0};
+    struct spritgrommet gateway = {spritgrommet_factory(), {cell, sizeof cell}, {plant, sizeof plant}, records, 16, tags, counts, 4, 0};
+    struct spritgrommet_reason reason;
+
+    if (spritgrommet_start(&gateway, 100) != 0) {
+        return 1;
+    }
+    reason = spritgrommet_packet_reason(&gateway, 100, reset, sizeof reset);
+    printf("refusal %d verdict %d count %d T %d:%s%s%s%s\n", reason.refusal, reason.verdict, reason.count, reason.threshold,
+           reason.by_count ? " count" : "", reason.by_plant_mark ? " plant-mark" : "", reason.by_cell_mark ? " cell-mark" : "",
+           reason.by_kind ? " kind" : "");
+    return 0;
+}
