@@ -5,57 +5,36 @@ use mathlib.Core.Path.{_≡_, refl, sym, ap, _∙_}
 use Prim.Native.Nat.{ℕ}
 use Rattle.laws.proofs.Tests.{true-is-not-false}
 use Rattle.packet.specs.declared.kinds.Kind.{Kind}
-use Rattle.packet.specs.declared.kinds.Kind.the-variants.{Udp, Opening, SynAck, Closing, Plain}
 use Rattle.counts.specs.Counts.{isBlocked}
+use Rattle.verdicts.specs.declared.Verdict.the-variants.{Uncounted, CreditOfOne, FreshContact, Hygiene, Blocked}
 use Rattle.verdicts.specs.Verdicts.{isForwarded, isUdp, isOpening, isSynAck, isClosing, fromTheCell, fromBlockedCell, verdictOf}
 use Rattle.reasons.specs.Reasons.{Facts, verdictOn, passes, withKind, reportedOn}
 use Rattle.reasons.proofs.Reasons.{kinds-of-blocked, kinds-of-others}
 use Rattle.explanations.specs.Values.{isBlocking}
 
--- a packet that is dropped has verdict 6 exactly if its address is blocked
+-- a packet that is dropped has verdict 6 exactly if its address is blocked: the two sentences on packets from the cell, by their tests
+of-blocked : (other udp-or-opening own-or-closing : Bool)
+    → let verdict = cond (not other) Blocked (cond udp-or-opening Blocked (cond own-or-closing Uncounted CreditOfOne)) in
+    isForwarded verdict ≡ false → isBlocking verdict ≡ true
+of-blocked false u c e = refl
+of-blocked true true c e = refl
+of-blocked true false true e = true-is-not-false refl e
+of-blocked true false false e = true-is-not-false refl e
+
+of-others : (own other closing closing-or-answer : Bool)
+    → let verdict = cond own Uncounted (cond other (cond closing Uncounted CreditOfOne) (cond closing-or-answer Hygiene FreshContact)) in
+    isForwarded verdict ≡ false → isBlocking verdict ≡ false
+of-others true other c k e = refl
+of-others false true true k e = refl
+of-others false true false k e = refl
+of-others false false c true e = refl
+of-others false false c false e = refl
+
 by-case : (blocked plant cell : Bool) (kind : Kind) → isForwarded (verdictOf false blocked (record { plant = plant; cell = cell }) kind) ≡ false
     → isBlocking (verdictOf false blocked (record { plant = plant; cell = cell }) kind) ≡ blocked
 unfolding verdictOf fromTheCell fromBlockedCell
-by-case false false false Udp e = true-is-not-false refl e
-by-case false false false Opening e = true-is-not-false refl e
-by-case false false false SynAck e = refl
-by-case false false false Closing e = refl
-by-case false false false Plain e = true-is-not-false refl e
-by-case false false true Udp e = true-is-not-false refl e
-by-case false false true Opening e = true-is-not-false refl e
-by-case false false true SynAck e = true-is-not-false refl e
-by-case false false true Closing e = true-is-not-false refl e
-by-case false false true Plain e = true-is-not-false refl e
-by-case false true false Udp e = true-is-not-false refl e
-by-case false true false Opening e = true-is-not-false refl e
-by-case false true false SynAck e = true-is-not-false refl e
-by-case false true false Closing e = true-is-not-false refl e
-by-case false true false Plain e = true-is-not-false refl e
-by-case false true true Udp e = true-is-not-false refl e
-by-case false true true Opening e = true-is-not-false refl e
-by-case false true true SynAck e = true-is-not-false refl e
-by-case false true true Closing e = true-is-not-false refl e
-by-case false true true Plain e = true-is-not-false refl e
-by-case true false false Udp e = refl
-by-case true false false Opening e = refl
-by-case true false false SynAck e = refl
-by-case true false false Closing e = refl
-by-case true false false Plain e = refl
-by-case true false true Udp e = refl
-by-case true false true Opening e = refl
-by-case true false true SynAck e = refl
-by-case true false true Closing e = refl
-by-case true false true Plain e = refl
-by-case true true false Udp e = refl
-by-case true true false Opening e = refl
-by-case true true false SynAck e = true-is-not-false refl e
-by-case true true false Closing e = true-is-not-false refl e
-by-case true true false Plain e = true-is-not-false refl e
-by-case true true true Udp e = refl
-by-case true true true Opening e = refl
-by-case true true true SynAck e = true-is-not-false refl e
-by-case true true true Closing e = true-is-not-false refl e
-by-case true true true Plain e = true-is-not-false refl e
+by-case true plant cell kind e = of-blocked plant (isUdp kind || isOpening kind) (cell || isClosing kind) e
+by-case false plant cell kind e = of-others cell plant (isClosing kind) (isClosing kind || isSynAck kind) e
 
 pub six-if-blocked : (threshold : ℕ) (facts : Facts) → passes threshold facts ≡ false
     → isBlocking (verdictOn threshold facts) ≡ isBlocked threshold (facts .count)
