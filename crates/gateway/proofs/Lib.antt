@@ -2,5 +2,6 @@
 pub mod Steps
 pub mod Refusals
 pub mod Jumps
+pub mod Openings
 pub mod Explained
 pub mod Agreement

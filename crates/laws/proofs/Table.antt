@@ -1,6 +1,6 @@
 -- A table's rule: one test that antt computes over the whole table, and one law that turns it into the rule at each entry.
 -- Assumes nothing.
-use mathlib.Core.Path.{_≡_}
+use mathlib.Core.Path.{_≡_, sym, ap, _∙_}
 use mathlib.Core.Bool.{Bool, true, _&&_}
 use Prim.Native.Nat.{ℕ, _<_}
 use lib.Dec.{ltb, eqb}
@@ -30,3 +30,9 @@ undone rows m f g e r h =
       small = λ n l. ltb-true _ _ (and-left (ltb (f r n) m) (eqb (g r (f r n)) n) (at n l));
       back = λ n l. eqb-true _ _ (and-right (ltb (f r n) m) (eqb (g r (f r n)) n) (at n l));
     }
+
+-- two functions agree below m, where a test of their values' names says so and a name tells its value
+pub agree : {A : Type 0} (name : A → ℕ) (named : ℕ → A) → ((a : A) → named (name a) ≡ a) → (m : ℕ) (f g : ℕ → A)
+    → every m (λ n. eqb (name (f n)) (name (g n))) ≡ true → (n : ℕ) → n < m → f n ≡ g n
+agree name named back m f g e n h =
+    sym (back (f n)) ∙ ap named (eqb-true _ _ (every-at m (λ k. eqb (name (f k)) (name (g k))) e n h)) ∙ back (g n)

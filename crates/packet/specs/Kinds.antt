@@ -20,10 +20,11 @@ tcp = 6
 abbrev pub flagNumber : ℕ → ℕ
 flagNumber flags = flags % 8 + flags / 16 % 2 * 16
 
--- "After that: 2 is opening; 18 is SYN+ACK; 1, 4, 17 and 20 are closing; every other value is plain."
+-- "After that: 2 is opening; 18 is SYN+ACK; 1, 4, 17 and 20 are closing; every other value is plain", but for what document 02, K5, says:
+-- "Document 01 was too narrow: TCP SYN without ACK is opening, so 2, 3, 6 and 7 are; 18 stays SYN+ACK; 19, 22 and 23 stay plain."
 unfoldable pub tcpKind : ℕ → Kind
 tcpKind n =
-    cond (among n (2 ∷ [])) Opening
+    cond (among n (2 ∷ 3 ∷ 6 ∷ 7 ∷ [])) Opening
     (cond (among n (18 ∷ [])) SynAck
     (cond (among n (1 ∷ 4 ∷ 17 ∷ 20 ∷ [])) Closing
     Plain))

@@ -17,7 +17,7 @@ pub fn of_flags(flags: u8) -> Kind
 {
     let number = flags % 8 + flags / 16 % 2 * 16;
     match number {
-        2 => Kind::Opening,
+        2 | 3 | 6 | 7 => Kind::Opening,
         18 => Kind::SynAck,
         1 | 4 | 17 | 20 => Kind::Closing,
         _ => Kind::Plain,
