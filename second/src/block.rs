@@ -85,7 +85,7 @@ fn sent_sentence(second: u32, dropped: &Dropped) -> String {
     };
     let what = match dropped.facts.kind {
         Kind::Udp => "a UDP packet",
-        Kind::Opening => "an opening TCP packet (SYN)",
+        Kind::Opening => "an opening (TCP SYN without ACK)",
         Kind::SynAck => "an answering TCP packet (SYN+ACK)",
         Kind::Closing => "a closing TCP packet (FIN or RST)",
         Kind::Plain => "a plain packet",

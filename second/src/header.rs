@@ -111,14 +111,16 @@ fn offset(ip: &[u8; 20]) -> u16 {
 
 /// "its flags are FIN 1, SYN 2, RST 4, ACK 16; PSH, URG, ECE and CWR are ignored."
 fn kind_of_tcp(flags: u8) -> Kind {
+    let (syn, ack) = (flags & 2 != 0, flags & 16 != 0);
     match flags & (1 + 2 + 4 + 16) {
-        // "2 is opening;"
-        2 => Kind::Opening,
-        // "18 is SYN+ACK;"
+        // Document 02's K5, in place of document 01's "2 is opening;": "TCP SYN without ACK is
+        // opening, so 2, 3, 6 and 7 are;"
+        _ if syn && !ack => Kind::Opening,
+        // "18 is SYN+ACK;", and K5: "18 stays SYN+ACK;"
         18 => Kind::SynAck,
         // "1, 4, 17 and 20 are closing;"
         1 | 4 | 17 | 20 => Kind::Closing,
-        // "every other value is plain."
+        // "every other value is plain.", and K5: "19, 22 and 23 stay plain."
         _ => Kind::Plain,
     }
 }
@@ -141,7 +143,7 @@ mod tests {
     }
 
     #[test]
-    fn addresses_ports_and_flags() {
+    fn addresses_and_ports() {
         let told = read(&tcp((0x0A00_0001, 40_000), (0xC0A8_0001, 80), 2));
         let packet = Packet {
             source: 0x0A00_0001,
@@ -154,15 +156,26 @@ mod tests {
         let told = read(&udp(0x0A00_0001, 0xC0A8_0001));
         let packet = Packet { kind: Kind::Udp, source_port: 0, destination_port: 0, ..packet };
         assert_eq!(told, Ok(packet));
-        for ignored in [0, 8, 32, 64, 128, 8 + 32 + 64 + 128] {
-            for plain in [0, 3, 5, 6, 7, 16, 19, 21, 22, 23] {
-                assert_eq!(kind_of_tcp(ignored + plain), Kind::Plain);
+    }
+
+    /// All 256 flag bytes. Each row has a value for ACK 16 and PSH 8, and the kinds with 0 to 7
+    /// beside it, for FIN 1, SYN 2 and RST 4. URG 32, ECE 64 and CWR 128 change none of them.
+    #[test]
+    fn kinds_of_all_flags() {
+        use Kind::{Closing, Opening, Plain, SynAck};
+        let rows = [
+            (0, [Plain, Closing, Opening, Opening, Closing, Plain, Opening, Opening]),
+            (8, [Plain, Closing, Opening, Opening, Closing, Plain, Opening, Opening]),
+            (16, [Plain, Closing, SynAck, Plain, Closing, Plain, Plain, Plain]),
+            (24, [Plain, Closing, SynAck, Plain, Closing, Plain, Plain, Plain]),
+        ];
+        for (row, kinds) in rows {
+            for (column, expected) in (0..).zip(kinds) {
+                for ignored in [0, 32, 64, 96, 128, 160, 192, 224] {
+                    let flags = row + column + ignored;
+                    assert_eq!(kind(&tcp((1, 1), (2, 2), flags)), Ok(expected), "{flags}");
+                }
             }
-            for closing in [1, 4, 17, 20] {
-                assert_eq!(kind_of_tcp(ignored + closing), Kind::Closing);
-            }
-            assert_eq!(kind_of_tcp(ignored + 2), Kind::Opening);
-            assert_eq!(kind_of_tcp(ignored + 18), Kind::SynAck);
         }
     }
 

@@ -210,14 +210,17 @@ mod tests {
 
     /// From the cell to PLANT, all on the slot of port 0.
     fn packet_of(kind: Kind) -> Vec<u8> {
-        let of_tcp = |flags| tcp((CELL, 40_000), (PLANT, 0), flags);
         match kind {
             Kind::Udp => udp(CELL, PLANT),
-            Kind::Opening => of_tcp(2),
-            Kind::SynAck => of_tcp(18),
-            Kind::Closing => of_tcp(4),
-            Kind::Plain => of_tcp(16),
+            Kind::Opening => flagged(2),
+            Kind::SynAck => flagged(18),
+            Kind::Closing => flagged(4),
+            Kind::Plain => flagged(16),
         }
+    }
+
+    fn flagged(flags: u8) -> Vec<u8> {
+        tcp((CELL, 40_000), (PLANT, 0), flags)
     }
 
     /// CELL blocked or not, and the marks on that slot, by packets at second 100.
@@ -262,6 +265,25 @@ mod tests {
                         assert_eq!(answer.verdict, verdict);
                     }
                     Err(refusal) => panic!("refused by {}", refusal.number()),
+                }
+            }
+        }
+    }
+
+    /// Document 02's K5: "TCP SYN without ACK is opening, so 2, 3, 6 and 7 are"; "Verdicts and K4's
+    /// tool follow".
+    #[test]
+    fn an_odd_opening_is_explained_as_an_opening() {
+        for row in ROWS {
+            let gateway = brought_about(&row);
+            for flags in [3, 6, 7] {
+                let told = explain(&gateway, 101, &flagged(flags));
+                assert_eq!(told, explain(&gateway, 101, &packet_of(Kind::Opening)), "{flags}");
+                if row.blocked {
+                    let why = dropped(&gateway, 101, &flagged(flags));
+                    let reported = if row.plant_mark { "6ck" } else { "6c" };
+                    assert_eq!(why.facts.kind, Kind::Opening, "{flags}");
+                    assert_eq!(letters(why.verdict, why.reported), reported, "{flags}");
                 }
             }
         }

@@ -171,17 +171,26 @@ mod tests {
         }
     }
 
+    /// SYN, and the SYN+FIN, SYN+RST and SYN+FIN+RST of document 02's K5.
+    const OPENINGS: [u8; 4] = [2, 3, 6, 7];
+
     #[test]
     fn an_opening_from_a_blocked_machine() {
         let five = 0x0A00_0005;
         let not_ours = vec![(7300, ethernet(&udp(five, CELL))); 12];
         let contacts = (20..30).map(|n| (7300, ethernet(&udp(five, PLANT + n))));
-        let opening = (7300, ethernet(&tcp((five, 40_000), (PLANT + 8, 80), 2)));
-        let first = "23 6 10 10 7300 10.0.0.5 40000 192.168.0.9 80 6 opening 1 1 count
-  10.0.0.5 port 40000 sent an opening TCP packet (SYN) to 192.168.0.9 port 80 at second 7300.\n";
+        let before = [not_ours, contacts.collect()].concat();
+        let first = "23 6 10 10 7300 10.0.0.5 40000 192.168.0.9 80 6 opening 1 1 count\n";
+        let sent =
+            "  10.0.0.5 port 40000 sent an opening (TCP SYN without ACK) to 192.168.0.9 port \
+             80 at second 7300.\n";
         let blocked = "  It was dropped as blocked: the count of 10.0.0.5 is 10, and T is 10.\n";
-        let all = [first, OURS, blocked, NO_PLANT_MARK, ANY_ONE, COUNT, "end 23 0\n"].concat();
-        assert_eq!(every_dropped(&[not_ours, contacts.collect(), vec![opening]].concat()), all);
+        let all = [first, sent, OURS, blocked, NO_PLANT_MARK, ANY_ONE, COUNT, "end 23 0\n"];
+        for flags in OPENINGS {
+            let opening = (7300, ethernet(&tcp((five, 40_000), (PLANT + 8, 80), flags)));
+            let records = [before.clone(), vec![opening]].concat();
+            assert_eq!(every_dropped(&records), all.concat(), "{flags}");
+        }
     }
 
     #[test]
@@ -215,12 +224,17 @@ mod tests {
     #[test]
     fn blocked_and_a_lower_count_or_another_kind_would_help() {
         let poll = (100, ethernet(&tcp((PLANT, 80), (CELL, 40_000), 16)));
-        let opening = (119, ethernet(&tcp((CELL, 40_000), (PLANT, 80), 2)));
-        let block = "12 6 10 10 119 10.0.0.1 40000 192.168.0.1 80 6 opening 1 1 count kind
-  10.0.0.1 port 40000 sent an opening TCP packet (SYN) to 192.168.0.1 port 80 at second 119.\n";
+        let first = "12 6 10 10 119 10.0.0.1 40000 192.168.0.1 80 6 opening 1 1 count kind\n";
+        let sent =
+            "  10.0.0.1 port 40000 sent an opening (TCP SYN without ACK) to 192.168.0.1 port \
+             80 at second 119.\n";
         let kinds = "  - the kind: SYN+ACK, closing or plain\n";
-        let all = [block, OURS, BLOCKED, PLANT_MARK, ANY_ONE, COUNT, kinds, "end 12 0\n"];
-        assert_eq!(every_dropped(&[vec![poll], blocking(), vec![opening]].concat()), all.concat());
+        let all = [first, sent, OURS, BLOCKED, PLANT_MARK, ANY_ONE, COUNT, kinds, "end 12 0\n"];
+        for flags in OPENINGS {
+            let opening = (119, ethernet(&tcp((CELL, 40_000), (PLANT, 80), flags)));
+            let records = [vec![poll.clone()], blocking(), vec![opening]].concat();
+            assert_eq!(every_dropped(&records), all.concat(), "{flags}");
+        }
     }
 
     #[test]

@@ -59,6 +59,28 @@ fn told(verdict: u8, count: i64) -> (u8, Option<i64>, Option<u32>) {
     (verdict, Some(count), None)
 }
 
+/// The source and destination of a packet between PLANT and CELL.
+fn ends(from: Side) -> (u32, u32) {
+    match from {
+        Side::Plant => (PLANT, CELL),
+        Side::Cell => (CELL, PLANT),
+    }
+}
+
+/// A TCP packet between them, on the slot of port 0.
+fn flagged(from: Side, flags: u8) -> Vec<u8> {
+    let (source, destination) = ends(from);
+    tcp((source, 0), (destination, 0), flags)
+}
+
+/// What a packet at second 9 is told, and the count and the slot that it leaves where CELL had this
+/// count and the slot these marks at second 7.
+fn outcome(count: i64, marks: Marks, packet: &[u8]) -> ((u8, Option<i64>, Option<u32>), i64, Slot) {
+    let mut gateway = preset(count, marks, 7);
+    let answer = judged(&mut gateway, 9, packet);
+    (answer, count_of(&gateway, CELL), gateway.slots[the_slot(&gateway)])
+}
+
 #[test]
 fn bench_examples_7_to_9_and_12() {
     assert_eq!(judged(&mut preset(4, NEITHER, 7), 7, &udp(CELL, PLANT)), told(4, 5));
@@ -114,14 +136,13 @@ fn verdict_cells() {
     ];
     for (from, blocked, marks, verdicts, slots) in rows {
         for (column, (verdict, on_slot)) in verdicts.bytes().zip(slots.bytes()).enumerate() {
-            let (source, destination) =
-                if from == Side::Plant { (PLANT, CELL) } else { (CELL, PLANT) };
+            let (source, destination) = ends(from);
             let packet = match column {
-                0 => tcp((source, 0), (destination, 0), 16),
+                0 => flagged(from, 16),
                 1 => udp(source, destination),
-                2 => tcp((source, 0), (destination, 0), 2),
-                3 => tcp((source, 0), (destination, 0), 18),
-                _ => tcp((source, 0), (destination, 0), 4),
+                2 => flagged(from, 2),
+                3 => flagged(from, 18),
+                _ => flagged(from, 4),
             };
             let before = if blocked { 5 } else { 4 };
             let after = match verdict {
@@ -130,14 +151,6 @@ fn verdict_cells() {
                 b'4' => before + 1,
                 _ => before,
             };
-            let mut gateway = preset(before, marks, 7);
-            let answer = judged(&mut gateway, 9, &packet);
-            assert_eq!(
-                answer,
-                told(verdict - b'0', after),
-                "{from:?} {blocked} {marks:?} {column}"
-            );
-            assert_eq!(count_of(&gateway, CELL), after);
             let own_set = match from {
                 Side::Plant => Marks { plant_to_cell: true, ..marks },
                 Side::Cell => Marks { cell_to_plant: true, ..marks },
@@ -147,7 +160,55 @@ fn verdict_cells() {
                 b'a' => Slot { marks, last_forwarded: 9 },
                 _ => Slot { marks, last_forwarded: 7 },
             };
+            assert_eq!(
+                outcome(before, marks, &packet),
+                (told(verdict - b'0', after), after, slot),
+                "{from:?} {blocked} {marks:?} {column}"
+            );
+        }
+    }
+}
+
+/// SYN+FIN, SYN+RST and SYN+FIN+RST, of document 02's K5: alone, with PSH, with URG and with both.
+const ODD_OPENINGS: [u8; 12] = [3, 6, 7, 11, 14, 15, 35, 38, 39, 43, 46, 47];
+
+/// K5: "A tester's SYN+FIN from a blocked machine on a slot with the plant's mark passed as plain".
+#[test]
+fn an_odd_opening_from_a_blocked_machine_is_dropped() {
+    for (marks, answer_to_ack) in [(PLANT_SEEN, told(2, 4)), (BOTH, told(1, 5))] {
+        for flags in ODD_OPENINGS {
+            let mut gateway = preset(5, marks, 7);
+            assert_eq!(judged(&mut gateway, 9, &flagged(Side::Cell, flags)), told(6, 5), "{flags}");
+            assert_eq!(count_of(&gateway, CELL), 5);
+            let slot = Slot { marks, last_forwarded: 7 };
             assert_eq!(gateway.slots[the_slot(&gateway)], slot);
+            // An ACK behind it is judged as if it had not been there.
+            assert_eq!(judged(&mut gateway, 9, &flagged(Side::Cell, 16)), answer_to_ack);
+        }
+        // "18 stays SYN+ACK; 19, 22 and 23 stay plain."
+        for flags in [16, 18, 19, 22, 23] {
+            let (answer, ..) = outcome(5, marks, &flagged(Side::Cell, flags));
+            assert_eq!(answer, answer_to_ack, "{flags}");
+        }
+    }
+}
+
+/// No verdict but that one tells openings and plain packets apart, so all else is as before K5.
+#[test]
+fn an_odd_opening_elsewhere_is_judged_as_a_plain_packet() {
+    let any_marks = [NEITHER, PLANT_SEEN, CELL_SEEN, BOTH];
+    for (from, count, slots) in [
+        (Side::Plant, 4, &any_marks[..]),
+        (Side::Plant, 5, &any_marks[..]),
+        (Side::Cell, 4, &any_marks[..]),
+        (Side::Cell, 5, &[NEITHER, CELL_SEEN]),
+    ] {
+        for marks in slots {
+            let plain = outcome(count, *marks, &flagged(from, 16));
+            for flags in ODD_OPENINGS {
+                let odd = outcome(count, *marks, &flagged(from, flags));
+                assert_eq!(odd, plain, "{from:?} {count} {marks:?} {flags}");
+            }
         }
     }
 }
