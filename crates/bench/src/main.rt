@@ -1,6 +1,7 @@
 // Runs examples of document 01 that are not numbered through the compiled gateway, and prints a line for each: refusals by one fault and
-// by two, every refusal at its edge, the session of four records, and the two-hour incident.
+// by two, every refusal at its edge, the session of four records, the two-hour incident, and SYN with something odd beside it.
 mod edges;
+mod flags;
 mod lines;
 mod names;
 mod packets;

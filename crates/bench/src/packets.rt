@@ -12,6 +12,8 @@ pub const TCP: u8 = 6;
 
 pub const UDP: u8 = 17;
 
+pub const FIN: u8 = 1;
+
 pub const SYN: u8 = 2;
 
 pub const ACK: u8 = 16;

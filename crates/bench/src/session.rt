@@ -1,6 +1,7 @@
-// Two runs over 4,096 records and 256 lines, with the factory settings and a cold start at second 100. Turns 1 to 4 are document 01's
+// Six runs over 4,096 records and 256 lines, with the factory settings and a cold start at second 100. Turns 1 to 4 are document 01's
 // session. Turns 5 to 28 are the incident: twelve plant machines poll one cell machine, nothing is heard for two hours, and then it sweeps
-// all twelve.
+// all twelve. The others are those of `flags`.
+use crate::flags;
 use crate::lines;
 use crate::packets;
 use rulings::answers::Answer;
@@ -26,7 +27,8 @@ fn packet_of(turn: u8) -> [u8; 40] {
         ),
         3 => packets::packet(packets::TCP, cell, plant, there, packets::ACK),
         4 => packets::packet(packets::UDP, cell, [10, 0, 0, 2], there, 0),
-        _ => poll_or_sweep(turn),
+        5..=28 => poll_or_sweep(turn),
+        _ => flags::packet_of(turn),
     }
 }
 
@@ -46,7 +48,10 @@ fn poll_or_sweep(turn: u8) -> [u8; 40] {
 }
 
 fn time_of(turn: u8) -> u32 {
-    if turn <= 16 { 100 } else { 7300 }
+    match turn {
+        17..=28 => 7300,
+        _ => 100,
+    }
 }
 
 fn judge(
@@ -133,8 +138,12 @@ fn run_turns(from: u8, to: u8) {
     print_totals(totals);
 }
 
-// Prints document 01's session turn by turn, with the tally after it, and then the two-hour incident.
+// Prints document 01's session turn by turn, with the tally after it, then the two-hour incident, the tester's SYN+FIN, and all flags.
 pub fn run() {
     run_turns(1, 5);
     run_turns(5, 29);
+    run_turns(29, 38);
+    run_turns(56, 96);
+    run_turns(96, 128);
+    run_turns(128, 192);
 }
