@@ -83,7 +83,7 @@ struct spritgrommet_answer {
 struct spritgrommet_reason {
     uint8_t refusal;    /* 0, or the number of the refusal */
     uint8_t verdict;    /* the packet's, as in `spritgrommet_answer`: 5 and 6 are dropped */
-    uint8_t kind;       /* 0 UDP. 1 opening. 2 SYN+ACK. 3 closing. 4 plain. */
+    uint8_t kind;       /* 0 UDP. 1 opening: TCP SYN without ACK. 2 SYN+ACK. 3 closing: FIN or RST, alone or with ACK. 4 plain. */
     bool plant_mark;    /* the record has the plant-to-cell mark */
     bool cell_mark;     /* the record has the cell-to-plant mark */
     int16_t count;      /* the cell address's count */

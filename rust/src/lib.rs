@@ -90,8 +90,10 @@ pub struct Answer {
 #[derive(Clone, Copy, Debug, PartialEq, Eq)]
 pub enum Kind {
     Udp = 0,
+    /// TCP SYN without ACK, whatever else is set.
     Opening = 1,
     SynAck = 2,
+    /// FIN or RST, alone or with ACK.
     Closing = 3,
     Plain = 4,
 }

@@ -26,7 +26,7 @@ kindWord Plain = text "plain"
 
 abbrev pub kindWords : Kind → List ℕ
 kindWords Udp = text "a UDP packet"
-kindWords Opening = text "an opening TCP packet (SYN)"
+kindWords Opening = text "an opening (TCP SYN without ACK)"
 kindWords SynAck = text "an answering TCP packet (SYN+ACK)"
 kindWords Closing = text "a closing TCP packet (FIN or RST)"
 kindWords Plain = text "a plain packet"

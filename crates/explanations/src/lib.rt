@@ -39,7 +39,7 @@ fn put_kind_words(room: &mut [u8], at: usize, kind: Kind) -> usize
 {
     match kind {
         Kind::Udp => lines::put_text(room, at, b"a UDP packet"),
-        Kind::Opening => lines::put_text(room, at, b"an opening TCP packet (SYN)"),
+        Kind::Opening => lines::put_text(room, at, b"an opening (TCP SYN without ACK)"),
         Kind::SynAck => lines::put_text(room, at, b"an answering TCP packet (SYN+ACK)"),
         Kind::Closing => lines::put_text(room, at, b"a closing TCP packet (FIN or RST)"),
         Kind::Plain => lines::put_text(room, at, b"a plain packet"),
