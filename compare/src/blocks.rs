@@ -1,10 +1,13 @@
-//! What a program that tells why put out, counted: blocks of dropped records by verdict, kind and the facts reported, and the
-//! runs in which it was asked something.
+//! What a program that tells why put out, counted: blocks of dropped records by verdict, kind and the facts reported, among them
+//! those of odd openings, and the runs in which it was asked something.
 
 use crate::brief::{is_sentence, BEFORE_FACTS};
 use crate::counts::Counts;
 use crate::finding::Columns;
+use crate::frames;
 use crate::questions::SORTS;
+use crate::traffic;
+use crate::unread::Unread;
 use std::collections::BTreeMap;
 
 /// Facts that can be reported together, with the verdict and the kinds of packet for which they can be. The letters of a column
@@ -24,12 +27,17 @@ const TOGETHER: [Together; 5] = [
     Together { column: "6ck", verdict: "6", kinds: &["udp", "opening"], facts: &["count", "kind"] },
 ];
 
+/// What a blocked machine's openings report where the plant's mark is set.
+const WITH_PLANT_MARK: &str = "6ck";
+
 #[derive(Clone, Default)]
 pub struct Blocks {
     /// The printing program's lines on the same captures.
     pub printed: Counts,
     /// Blocks of dropped records, by column and kind.
     seen: BTreeMap<(&'static str, &'static str), usize>,
+    /// Those in column `WITH_PLANT_MARK` of an opening with FIN or RST beside SYN: what K5's tester sent.
+    odd: usize,
     /// First lines that report what cannot be reported.
     unknown: usize,
     /// Runs with arguments, by the sort of question.
@@ -38,18 +46,20 @@ pub struct Blocks {
 
 impl Blocks {
     /// Of one capture; what was asked is added later.
-    pub fn of(printed: &str, told: &str) -> Blocks {
+    pub fn of(capture: &[u8], printed: &str, told: &str) -> Blocks {
         let mut blocks = Blocks { printed: Counts::of(printed.as_bytes()), ..Blocks::default() };
+        let mut numbered = (1..).zip(frames_of(capture));
         for line in told.lines().filter(|line| !is_sentence(line)) {
             let words: Vec<&str> = line.split(' ').collect();
             if words.len() >= BEFORE_FACTS {
-                blocks.add_first_line(&words);
+                let frame = numbered.find(|(number, _)| words[0].parse() == Ok(*number)).map(|(_, frame)| frame);
+                blocks.add_first_line(&words, frame.is_some_and(frames::is_odd_opening));
             }
         }
         blocks
     }
 
-    fn add_first_line(&mut self, words: &[&str]) {
+    fn add_first_line(&mut self, words: &[&str], is_odd_opening: bool) {
         let (verdict, kind, facts) = (words[1], words[10], &words[BEFORE_FACTS..]);
         let together = TOGETHER.iter().find(|known| known.verdict == verdict && known.facts == facts);
         let kind_and_column = together.and_then(|known| {
@@ -57,7 +67,10 @@ impl Blocks {
             Some((known.column, *kind))
         });
         match kind_and_column {
-            Some(key) => *self.seen.entry(key).or_default() += 1,
+            Some(key) => {
+                *self.seen.entry(key).or_default() += 1;
+                self.odd += usize::from(is_odd_opening && key == (WITH_PLANT_MARK, "opening"));
+            }
             None => self.unknown += 1,
         }
     }
@@ -79,11 +92,17 @@ impl Blocks {
     fn columns(&self) -> Vec<(&'static str, usize, usize)> {
         let mut columns = vec![("v5", 8, self.with_verdict("5")), ("v6", 8, self.with_verdict("6"))];
         columns.extend(TOGETHER.iter().map(|known| (known.column, 8, self.in_column(known.column))));
+        columns.push(("odd", 8, self.odd));
         columns.push(("R7", 5, self.printed.seen("R7")));
         columns.push(("R8", 5, self.printed.seen("R8")));
         columns.push(("asked", 8, self.asked.values().sum()));
         columns
     }
+}
+
+fn frames_of(capture: &[u8]) -> impl Iterator<Item = &[u8]> {
+    let mut unread = Unread::of(capture);
+    std::iter::from_fn(move || unread.record().map(|(_, frame)| frame))
 }
 
 impl Columns for Blocks {
@@ -103,6 +122,7 @@ impl Columns for Blocks {
         for (sort, runs) in &more.asked {
             *self.asked.entry(*sort).or_default() += runs;
         }
+        self.odd += more.odd;
         self.unknown += more.unknown;
     }
 
@@ -112,8 +132,17 @@ impl Columns for Blocks {
 }
 
 pub const SHOWN_BY_BLOCKS: &str =
-    "seeds show all facts that can be reported together, with every kind; v0 to v6, R4 to R6 and \
-                                   what is not there were asked for; R7 and R8 were seen";
+    "seeds show all facts that can be reported together, with every kind, and many odd openings from blocked machines where the \
+     plant's mark is set; v0 to v6, R4 to R6 and what is not there were asked for; R7 and R8 were seen";
+
+/// A seed whose theme they are has at least one odd opening in so many records.
+const RECORDS_AN_ODD_OPENING: usize = 25;
+
+pub fn lacking_in_seed(seed: u64, records: usize, main: &Blocks) -> Option<String> {
+    let wanted = records / RECORDS_AN_ODD_OPENING;
+    let lacks = traffic::has_many_odd_openings(seed) && main.odd < wanted;
+    lacks.then(|| format!("seed {seed} has {} odd openings, and not {wanted}", main.odd))
+}
 
 /// What can be reported has to come from seeds, and so has every sort of question; refusal 7 is left to the damaged captures.
 pub fn lacking(seeds: &Blocks, all: &Blocks) -> Vec<String> {

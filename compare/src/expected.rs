@@ -2,13 +2,14 @@
 //! nothing to do with any program's.
 
 use crate::capture::{Capture, Order};
+use crate::unread::Unread;
 use std::process::{ExitStatus, Output};
 
 /// Of the capture that was read, and what the printing program printed on it: the forwarded records on standard output, what
 /// the printing program prints last on standard error, and status 0. Words for what does not fit, if lines and records don't.
 pub fn expected(input: &[u8], printed: &[u8]) -> Result<Output, String> {
     let printed = String::from_utf8_lossy(printed);
-    let mut unread = Unread { order: order_of(input), bytes: input.get(24..).unwrap_or(&[]) };
+    let mut unread = Unread::of(input);
     let mut capture = Capture::plain(Order::Little);
     let mut last_lines = String::new();
     for line in printed.lines() {
@@ -33,35 +34,5 @@ pub fn expected(input: &[u8], printed: &[u8]) -> Result<Output, String> {
     match unread.bytes.len() {
         0 => Ok(Output { status: ExitStatus::default(), stdout: capture.bytes, stderr: last_lines.into() }),
         left => Err(format!("no line tells of the last {left} bytes")),
-    }
-}
-
-/// Where it is neither, the capture has no record that is read.
-fn order_of(input: &[u8]) -> Order {
-    if input.starts_with(&[0xa1]) {
-        Order::Big
-    } else {
-        Order::Little
-    }
-}
-
-struct Unread<'a> {
-    order: Order,
-    bytes: &'a [u8],
-}
-
-impl<'a> Unread<'a> {
-    /// The four words of a record's header, in their order, and its captured bytes.
-    fn record(&mut self) -> Option<([u32; 4], &'a [u8])> {
-        let header = self.bytes.get(..16)?;
-        let mut words = [0; 4];
-        for (word, bytes) in words.iter_mut().zip(header.chunks(4)) {
-            let bytes = bytes.try_into().ok()?;
-            *word = if self.order == Order::Big { u32::from_be_bytes(bytes) } else { u32::from_le_bytes(bytes) };
-        }
-        let end = 16_usize.checked_add(words[2] as usize)?;
-        let frame = self.bytes.get(16..end)?;
-        self.bytes = &self.bytes[end..];
-        Some((words, frame))
     }
 }

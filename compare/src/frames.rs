@@ -92,6 +92,13 @@ impl Packet {
     }
 }
 
+/// Whether a frame has an opening with FIN or RST beside SYN, if it has TCP's flags at all.
+pub fn is_odd_opening(frame: &[u8]) -> bool {
+    let header_length = 4 * usize::from(frame.get(ETHERNET).map_or(0, |first| first & 15));
+    let flags = frame.get(ETHERNET + header_length + 13).copied().unwrap_or(0);
+    flags & (SYN | ACK) == SYN && flags & (FIN | RST) != 0
+}
+
 fn set(frame: &mut [u8], at: usize, bytes: &[u8]) {
     frame[at..at + bytes.len()].copy_from_slice(bytes);
 }

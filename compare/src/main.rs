@@ -18,6 +18,7 @@ mod random;
 mod report;
 mod run;
 mod traffic;
+mod unread;
 mod walk;
 mod why;
 
@@ -150,15 +151,18 @@ fn forwarded_all(forwarders: &Forwarders, amount: &Amount) -> Result<bool, Strin
 /// Without an argument on all captures; asked for records on those of the seeds, and on some that end too soon.
 fn why_all(asked: &Asked, amount: &Amount) -> Result<bool, String> {
     let mut report = Report::new::<Blocks>();
-    let from_seeds = walk::seeds(asked, amount, &mut report)?.sum;
-    let seeds = from_seeds.counts.clone();
-    let mut sum = from_seeds.with(walk::damaged(&asked.0, &mut report)?);
+    let from_seeds = walk::seeds(asked, amount, &mut report)?;
+    let seeds = from_seeds.sum.counts.clone();
+    let mut sum = from_seeds.sum.with(walk::damaged(&asked.0, &mut report)?);
     for order in ORDERS {
         let some: Vec<Specimen> = damage::prefixes(order).into_iter().step_by(60).collect();
         sum = sum.with(walk::family(asked, "asked, prefixes", &order.to_string(), &some, &mut report)?);
     }
     report::row("totals", "", &sum, "");
-    report.add_vacuity(&blocks::lacking(&seeds, &sum.counts), blocks::SHOWN_BY_BLOCKS);
+    let mut lacking = blocks::lacking(&seeds, &sum.counts);
+    let in_seed = |(seed, main): &(u64, Blocks)| blocks::lacking_in_seed(*seed, amount.records, main);
+    lacking.extend(from_seeds.mains.iter().filter_map(in_seed));
+    report.add_vacuity(&lacking, blocks::SHOWN_BY_BLOCKS);
     Ok(report.finish())
 }
 

@@ -22,6 +22,13 @@ const SEEN: [u8; 15] = [
     ACK, ACK, PSH | ACK, PSH | ACK | 0x20, 0,
 ];
 
+/// What stands beside SYN in the openings that testers send (document 02, K5), and flags that are ignored.
+const BESIDE_SYN: [u8; 3] = [FIN, RST, FIN | RST];
+const IGNORED: [u8; 6] = [0, 0, PSH, 0x20, 0xc0, PSH | 0xe0];
+
+/// What passes where those do not: plain, SYN+ACK, and SYN+ACK with something beside it, which is plain.
+const NO_OPENINGS: [u8; 5] = [ACK, SYN | ACK, SYN | ACK | FIN, SYN | ACK | RST, SYN | ACK | FIN | RST];
+
 /// A session in full. One opened from the plant has the sides exchanged.
 #[rustfmt::skip]
 pub const SESSION: [(Side, u8); 10] = [
@@ -46,18 +53,18 @@ struct Theme {
     /// Weights of the clock's moves, in the order of `Traffic::pass_time`.
     pace: [u32; 6],
     /// Weights of the scenes, in the order of `Traffic::play_scene`.
-    scenes: [u32; 11],
+    scenes: [u32; 12],
 }
 
-/// A seed's theme is the one at its remainder by six: odd frames; every day; a crowd at few plant addresses; scans; pauses;
-/// time that almost stands still, over a crowd.
+/// A seed's theme is the one at its remainder by six: odd frames; every day; a crowd at few plant addresses; scans, and testers'
+/// odd openings; pauses; time that almost stands still, over a crowd.
 const THEMES: [Theme; 6] = [
-    Theme { crowd: 900, plants: 40, pace: [40, 30, 10, 10, 3, 1], scenes: [18, 2, 1, 6, 8, 1, 10, 2, 10, 20, 8] },
-    Theme { crowd: 1_500, plants: 60, pace: [30, 30, 15, 15, 3, 0], scenes: [32, 2, 2, 6, 8, 1, 12, 3, 4, 4, 3] },
-    Theme { crowd: 6_000, plants: 5, pace: [30, 20, 15, 15, 8, 1], scenes: [16, 2, 12, 4, 8, 1, 8, 3, 2, 2, 2] },
-    Theme { crowd: 400, plants: 200, pace: [40, 20, 20, 20, 2, 1], scenes: [10, 2, 1, 14, 20, 4, 8, 2, 2, 2, 2] },
-    Theme { crowd: 700, plants: 100, pace: [20, 20, 20, 20, 15, 2], scenes: [20, 2, 1, 6, 10, 4, 14, 16, 2, 2, 2] },
-    Theme { crowd: 4_000, plants: 250, pace: [90, 10, 1, 0, 1, 0], scenes: [18, 2, 8, 4, 10, 1, 10, 0, 4, 3, 2] },
+    Theme { crowd: 900, plants: 40, pace: [40, 30, 10, 10, 3, 1], scenes: [18, 2, 1, 6, 8, 1, 10, 2, 10, 20, 8, 2] },
+    Theme { crowd: 1_500, plants: 60, pace: [30, 30, 15, 15, 3, 0], scenes: [32, 2, 2, 6, 8, 1, 12, 3, 4, 4, 3, 2] },
+    Theme { crowd: 6_000, plants: 5, pace: [30, 20, 15, 15, 8, 1], scenes: [16, 2, 12, 4, 8, 1, 8, 3, 2, 2, 2, 2] },
+    Theme { crowd: 400, plants: 200, pace: [40, 20, 20, 20, 2, 1], scenes: [10, 2, 1, 14, 20, 4, 8, 2, 2, 2, 2, 30] },
+    Theme { crowd: 700, plants: 100, pace: [20, 20, 20, 20, 15, 2], scenes: [20, 2, 1, 6, 10, 4, 14, 16, 2, 2, 2, 2] },
+    Theme { crowd: 4_000, plants: 250, pace: [90, 10, 1, 0, 1, 0], scenes: [18, 2, 8, 4, 10, 1, 10, 0, 4, 3, 2, 2] },
 ];
 
 struct Traffic {
@@ -71,6 +78,11 @@ struct Traffic {
     known: Vec<Packet>,
     /// The last of the flag bytes that come in turn.
     turn: u8,
+}
+
+/// Whether a seed's theme is the one with many odd openings.
+pub fn has_many_odd_openings(seed: u64) -> bool {
+    seed % 6 == 3
 }
 
 /// Not by parity alone, so that each theme meets both orders.
@@ -225,7 +237,8 @@ impl Traffic {
             7 => self.pauses(),
             8 => self.edges(),
             9 => self.odd_frames(),
-            _ => self.back_in_time(),
+            10 => self.back_in_time(),
+            _ => self.odd_openings(),
         }
     }
 
@@ -297,6 +310,27 @@ impl Traffic {
         for _ in 0..self.random.between(4, 14) {
             self.send_any(on, Cell);
             if self.random.chance(40) {
+                self.try_stranger(scanner);
+            }
+        }
+    }
+
+    /// The plant speaks to a blocked machine, which then opens on that slot, each time with something beside SYN. What passes there
+    /// tells by its verdict whether one of them left a mark, and brings it under T; another stranger gets it blocked again.
+    fn odd_openings(&mut self) {
+        let scanner = self.random.pick(&self.scanners);
+        for _ in 0..self.random.between(12, 16) {
+            self.try_stranger(scanner);
+        }
+        let on = Packet { protocol: TCP, ..self.stranger(scanner) };
+        let spoken = self.random.pick(&[SYN, SYN | FIN, ACK]);
+        self.send(on, Plant, spoken);
+        for _ in 0..self.random.between(3, 12) {
+            let flags = SYN | self.random.pick(&BESIDE_SYN) | self.random.pick(&IGNORED);
+            self.send(on, Cell, flags);
+            if self.random.chance(15) {
+                let flags = self.random.pick(&NO_OPENINGS);
+                self.send(on, Cell, flags);
                 self.try_stranger(scanner);
             }
         }

@@ -24,7 +24,7 @@ impl Examiner for Whys<'_> {
 
     fn examine(&self, specimen: &Specimen) -> Result<Finding<Blocks>, String> {
         let (printed, told, difference) = self.unasked(&specimen.bytes)?;
-        Ok(Finding::of(specimen, Blocks::of(&printed, &told), difference))
+        Ok(Finding::of(specimen, Blocks::of(&specimen.bytes, &printed, &told), difference))
     }
 }
 
@@ -33,7 +33,7 @@ impl Examiner for Asked<'_> {
 
     fn examine(&self, specimen: &Specimen) -> Result<Finding<Blocks>, String> {
         let (printed, told, mut difference) = self.0.unasked(&specimen.bytes)?;
-        let mut blocks = Blocks::of(&printed, &told);
+        let mut blocks = Blocks::of(&specimen.bytes, &printed, &told);
         for question in questions(&Printed::of(&printed)) {
             let found = self.0.ask(&question, &told, &specimen.bytes)?;
             difference = difference.or(found.map(|found| format!("asked {:?}, {found}", question.arguments)));

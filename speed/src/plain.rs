@@ -103,7 +103,7 @@ pub struct Header {
 
 fn kind_of(flags: u8) -> Kind {
     match flags & 0x17 {
-        2 => Kind::Opening,
+        2 | 3 | 6 | 7 => Kind::Opening,
         18 => Kind::SynAck,
         1 | 4 | 17 | 20 => Kind::Closing,
         _ => Kind::Plain,

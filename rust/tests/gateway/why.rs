@@ -317,6 +317,37 @@ fn every_cell() {
     assert_eq!((cells.len(), dropped.len()), (40, 16));
 }
 
+/// The kinds of FIN 1, SYN 2, RST 4, PSH 8 and ACK 16 in all 32 ways: opening, SYN+ACK, closing and plain. Document 02, K5: "TCP SYN without
+/// ACK is opening, so 2, 3, 6 and 7 are; 18 stays SYN+ACK; 19, 22 and 23 stay plain." PSH is ignored.
+const BY_FLAGS: &[u8; 32] = b"pcoocpoopcoocpoopcspcppppcspcppp";
+
+/// Every byte of flags, from a blocked machine: the kind that is told where no mark is set, and every kind is dropped; and where the plant's
+/// is, K5's tester's SYN+FIN and all other openings are dropped and change nothing, and the rest passes.
+#[test]
+fn every_byte_of_flags() {
+    let settings = settings_with(5);
+    for flags in 0..=255 {
+        let packet = samples::tcp((CELL, 40_000), (PLANT, 80), flags);
+        let kind = match BY_FLAGS[usize::from(flags % 32)] {
+            b'o' => Kind::Opening,
+            b's' => Kind::SynAck,
+            b'c' => Kind::Closing,
+            _ => Kind::Plain,
+        };
+        let scene = Scene { entry: 5, plant_mark: false, cell_mark: false, age: 0, kind, port: 80 };
+        assert_eq!(scene.lent(settings).why(SECOND, &packet), by_facts(5, scene.facts()), "{flags}");
+        let marked = Scene { plant_mark: true, ..scene };
+        let before = marked.lent(settings);
+        let (mut after, reason) = (before.clone(), before.why(SECOND, &packet));
+        let answer = after.judge(SECOND, &packet);
+        assert_eq!((reason.verdict, is_forwarded(answer)), (answer.verdict, kind != Kind::Opening), "{flags}");
+        if kind == Kind::Opening {
+            assert_eq!((answer.verdict, answer.count, reported(&reason)), (6, 5, [true, false, false, true]), "{flags}");
+            assert_eq!(after, before);
+        }
+    }
+}
+
 /// A fact is reported exactly if the judge itself forwards the packet with some other value of it. Where the port is 0 a packet of another
 /// kind meets the same tables; where it is not, its record is the one at its own slot.
 #[test]
