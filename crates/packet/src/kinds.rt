@@ -11,7 +11,8 @@ pub enum Kind {
     Plain,
 }
 
-// The kind of a TCP packet. FIN, SYN, RST and ACK make a number; the other four flags are left out.
+// The kind of a TCP packet. FIN, SYN, RST and ACK make a number; the other four flags are left out. SYN without ACK opens, whatever stands
+// beside it: several stacks take it so.
 pub fn of_flags(flags: u8) -> Kind
     ensures { λ r. ⌜ r ≡ tcpKind (flagNumber flags) ⌝ }
 {

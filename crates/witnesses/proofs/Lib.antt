@@ -1,2 +1,3 @@
--- That they do.
+-- That they do, and that it meets what is asked there.
 pub mod Tight
+pub mod Tester

@@ -1,2 +1,3 @@
--- Runs that reach what demand 3 allows.
+-- Runs that reach what demand 3 allows, and the case of which K5 tells.
 pub mod Tight
+pub mod Tester
