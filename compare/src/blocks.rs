@@ -136,10 +136,10 @@ pub const SHOWN_BY_BLOCKS: &str =
      plant's mark is set; v0 to v6, R4 to R6 and what is not there were asked for; R7 and R8 were seen";
 
 /// A seed whose theme they are has at least one odd opening in so many records.
-const RECORDS_AN_ODD_OPENING: usize = 25;
+const RECORDS_PER_ODD_OPENING: usize = 25;
 
 pub fn lacking_in_seed(seed: u64, records: usize, main: &Blocks) -> Option<String> {
-    let wanted = records / RECORDS_AN_ODD_OPENING;
+    let wanted = records / RECORDS_PER_ODD_OPENING;
     let lacks = traffic::has_many_odd_openings(seed) && main.odd < wanted;
     lacks.then(|| format!("seed {seed} has {} odd openings, and not {wanted}", main.odd))
 }
@@ -155,6 +155,9 @@ pub fn lacking(seeds: &Blocks, all: &Blocks) -> Vec<String> {
     lacking.extend(not_asked.map(|sort| format!("no seed was asked for {sort}")));
     let unseen = ["R7", "R8"].into_iter().filter(|name| all.printed.seen(name) == 0);
     lacking.extend(unseen.map(|name| format!("no {name} was seen")));
+    if seeds.odd == 0 {
+        lacking.push("no seed has an odd opening where the plant's mark is set".into());
+    }
     let unknown = all.unknown + all.printed.unknown;
     if unknown > 0 {
         lacking.push(format!("{unknown} lines have no known form"));

@@ -22,8 +22,10 @@ const SEEN: [u8; 15] = [
     ACK, ACK, PSH | ACK, PSH | ACK | 0x20, 0,
 ];
 
-/// What stands beside SYN in the openings that testers send (document 02, K5), and flags that are ignored.
+/// What stands beside SYN in the openings that testers send (document 02, K5).
 const BESIDE_SYN: [u8; 3] = [FIN, RST, FIN | RST];
+
+/// None, or some, of the flags that are ignored.
 const IGNORED: [u8; 6] = [0, 0, PSH, 0x20, 0xc0, PSH | 0xe0];
 
 /// What passes where those do not: plain, SYN+ACK, and SYN+ACK with something beside it, which is plain.
@@ -315,8 +317,9 @@ impl Traffic {
         }
     }
 
-    /// The plant speaks to a blocked machine, which then opens on that slot, each time with something beside SYN. What passes there
-    /// tells by its verdict whether one of them left a mark, and brings it under T; another stranger gets it blocked again.
+    /// The plant speaks to a blocked machine, which then opens on that slot, each time with something beside SYN. The first packet
+    /// that passes there tells by its verdict whether one of them left a mark, and brings the machine under T; another stranger
+    /// gets it blocked again, now with both marks on the slot.
     fn odd_openings(&mut self) {
         let scanner = self.random.pick(&self.scanners);
         for _ in 0..self.random.between(12, 16) {

@@ -86,7 +86,7 @@ pub struct Answer {
     pub replaced: Option<u32>,
 }
 
-/// The kinds of packet, by their words in document 01.
+/// The kinds of packet, by their words in documents 01 and 02.
 #[derive(Clone, Copy, Debug, PartialEq, Eq)]
 pub enum Kind {
     Udp = 0,

@@ -1,4 +1,4 @@
-//! A plain gateway of the same scheme, from document 01, written for speed in the usual Rust way: it owns its tables, tests
+//! A plain gateway of the same scheme, from documents 01 and 02, written for speed in the usual Rust way: it owns its tables, tests
 //! settings, sizes and side lists once, when it is made, and works with masks and shifts. `each_call` shares its parts.
 
 use crate::cipher::{decrypt, encrypt};

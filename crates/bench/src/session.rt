@@ -138,7 +138,7 @@ fn run_turns(from: u8, to: u8) {
     print_totals(totals);
 }
 
-// Prints document 01's session turn by turn, with the tally after it, then the two-hour incident, the tester's SYN+FIN, and all flags.
+// Prints document 01's session turn by turn, with the tally after it, then the two-hour incident, and the runs of `flags`.
 pub fn run() {
     run_turns(1, 5);
     run_turns(5, 29);

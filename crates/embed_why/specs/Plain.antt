@@ -3,21 +3,12 @@
 use mathlib.Core.Bool.{false}
 use Prim.Native.Nat.{ℕ}
 use lib.IntN.{pos}
-use Rattle.packet.specs.declared.kinds.Kind.{Kind}
-use Rattle.packet.specs.declared.kinds.Kind.the-variants.{Udp, Opening, SynAck, Closing, Plain}
+use Rattle.packet.specs.Kinds.{kindNumber}
 use Rattle.verdicts.specs.Verdicts.{numberOf}
 use Rattle.reasons.specs.declared.Drop.{Drop}
 use Rattle.reasons.specs.declared.Explanation.{Explanation}
 use Rattle.reasons.specs.declared.Explanation.the-variants as why
 use Rattle.embed_why.specs.declared.plain.PlainReason.{PlainReason}
-
--- "The kind's values are UDP, opening, SYN+ACK, closing and plain."
-abbrev pub kindNumber : Kind → ℕ
-kindNumber Udp = 0
-kindNumber Opening = 1
-kindNumber SynAck = 2
-kindNumber Closing = 3
-kindNumber Plain = 4
 
 -- "Verdicts 0 to 4 get the verdict alone", and a refusal its number alone
 abbrev pub verdictAlone : ℕ → ℕ → PlainReason

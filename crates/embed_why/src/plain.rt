@@ -1,6 +1,7 @@
 // Why a packet was dropped, as plain numbers, laid out as C does. A number that an answer does not have is 0.
 ghost use mathlib.Core.Path.{_≡_};
-ghost use Rattle.embed_why.specs.Plain.{kindNumber, verdictAlone, plainDrop, plainReason};
+ghost use Rattle.packet.specs.Kinds.{kindNumber};
+ghost use Rattle.embed_why.specs.Plain.{verdictAlone, plainDrop, plainReason};
 use packet::kinds::Kind;
 use reasons::Drop;
 use reasons::Explanation;

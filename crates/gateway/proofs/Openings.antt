@@ -1,4 +1,4 @@
--- Document 02, K5: a blocked machine opens nothing. Whatever stands beside SYN in the flags, whatever the marks of the slot, and under every
+-- Document 02, K5: a blocked machine opens nothing. Whatever stands beside SYN in the flags, whatever the marks of the slot, and under any
 -- rules of a run.
 -- Assumes nothing.
 use mathlib.Core.Bool.{Bool, true, false}
@@ -34,19 +34,20 @@ opening-blocked : (marks : Marks) → verdictOf false true marks Opening ≡ Blo
 unfolding verdictOf
 opening-blocked marks = either-mark (marks .cell) (marks .plant)
 
-module _ (rules : Settings → Rules) (settings : Settings) (cell plant : List ℕ) (time : ℕ) (bytes : List ℕ) (before : State) where
-  -- the tables as they stand at the packet's second, and where the packet is looked up in them
-  abbrev tablesThen : Tables
+module _ (rules : Settings → Rules) (settings : Settings) (time : ℕ) (bytes : List ℕ) (before : State) where
+  -- the tables as they stand at the packet's second, and where a packet from the cell is looked up in them
+  abbrev pub tablesThen : Tables
   tablesThen = onward (rules settings .point) settings time before .tables
 
-  abbrev spotThen : Spot
+  abbrev pub spotThen : Spot
   spotThen = spotOf (rules settings) (settings .keys) (headerOf bytes) false (length (tablesThen .records)) (length (tablesThen .tags))
 
   -- the machine that sends the packet is blocked by then
   abbrev pub BlockedThen : Type 0
   BlockedThen = isBlocked (rules settings .threshold) (countMet spotThen tablesThen) ≡ true
 
-  pub opens-nothing : packetRefusal settings cell plant time bytes before ≡ 0 → directionIn cell plant (headerOf bytes) ≡ FromCell → Opens bytes
-      → BlockedThen → verdictTold (judged rules settings cell plant time bytes before .answer) ≡ some 6
+  pub opens-nothing : (cell plant : List ℕ) → packetRefusal settings cell plant time bytes before ≡ 0
+      → directionIn cell plant (headerOf bytes) ≡ FromCell → Opens bytes → BlockedThen
+      → verdictTold (judged rules settings cell plant time bytes before .answer) ≡ some 6
   unfolding judged byDirection ours rulingOf
-  opens-nothing accepted from-cell opening blocked = rw (accepted, from-cell, blocked, opens bytes opening, opening-blocked)
+  opens-nothing cell plant accepted from-cell opening blocked = rw (accepted, from-cell, blocked, opens bytes opening, opening-blocked)

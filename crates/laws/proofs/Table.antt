@@ -1,4 +1,5 @@
--- A table's rule: one test that antt computes over the whole table, and one law that turns it into the rule at each entry.
+-- A table's rule: one test that antt computes over the whole table, and one law that turns it into the rule at each entry; for tables of
+-- numbers that undo each other, and for two tables of anything that agree.
 -- Assumes nothing.
 use mathlib.Core.Path.{_≡_, sym, ap, _∙_}
 use mathlib.Core.Bool.{Bool, true, _&&_}
@@ -31,8 +32,8 @@ undone rows m f g e r h =
       back = λ n l. eqb-true _ _ (and-right (ltb (f r n) m) (eqb (g r (f r n)) n) (at n l));
     }
 
--- two functions agree below m, where a test of their values' names says so and a name tells its value
-pub agree : {A : Type 0} (name : A → ℕ) (named : ℕ → A) → ((a : A) → named (name a) ≡ a) → (m : ℕ) (f g : ℕ → A)
-    → every m (λ n. eqb (name (f n)) (name (g n))) ≡ true → (n : ℕ) → n < m → f n ≡ g n
-agree name named back m f g e n h =
-    sym (back (f n)) ∙ ap named (eqb-true _ _ (every-at m (λ k. eqb (name (f k)) (name (g k))) e n h)) ∙ back (g n)
+-- two functions have equal values below m where a test finds the numbers of their values equal, and a number has one value
+pub agree : {A : Type 0} (number : A → ℕ) (numbered : ℕ → A) → ((a : A) → numbered (number a) ≡ a) → (m : ℕ) (f g : ℕ → A)
+    → every m (λ n. eqb (number (f n)) (number (g n))) ≡ true → (n : ℕ) → n < m → f n ≡ g n
+agree number numbered back m f g e n h =
+    sym (back (f n)) ∙ ap numbered (eqb-true _ _ (every-at m (λ k. eqb (number (f k)) (number (g k))) e n h)) ∙ back (g n)

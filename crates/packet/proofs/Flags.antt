@@ -11,15 +11,15 @@ use Rattle.laws.specs.Search.{every}
 use Rattle.laws.proofs.Table.{agree}
 use Rattle.packet.specs.declared.kinds.Kind.{Kind}
 use Rattle.packet.specs.declared.kinds.Kind.the-variants.{Udp, Opening, SynAck, Closing, Plain}
-use Rattle.packet.specs.Kinds.{tcp, flagNumber, tcpKind, kindOf}
+use Rattle.packet.specs.Kinds.{kindNumber, tcp, flagNumber, tcpKind, kindOf}
 use Rattle.packet.specs.Header.{protocol, later, flags, transportOf, headerOf}
 
 -- "its flags are FIN 1, SYN 2, RST 4, ACK 16": whether the flag of such a number is set
 abbrev pub isSet : ℕ → ℕ → Bool
 isSet flag flags = eqb (flags / flag % 2) 1
 
--- the kind by the four flags: "TCP SYN without ACK is opening"; SYN with ACK, and neither FIN nor RST, is SYN+ACK; either FIN or RST, and no
--- SYN, is closing, with ACK or without; all else is plain
+-- the kind by the four flags: "TCP SYN without ACK is opening"; SYN with ACK, and neither FIN nor RST, is SYN+ACK; FIN or RST, not both, and
+-- no SYN, is closing, with ACK or without; all else is plain
 abbrev pub byFlags : Bool → Bool → Bool → Bool → Kind
 byFlags fin syn rst ack =
     cond (syn && not ack) Opening
@@ -30,19 +30,12 @@ byFlags fin syn rst ack =
 abbrev pub inWords : ℕ → Kind
 inWords flags = byFlags (isSet 1 flags) (isSet 2 flags) (isSet 4 flags) (isSet 16 flags)
 
--- kinds by numbers of their own, so that a test tells them apart
-abbrev numberOf : Kind → ℕ
-numberOf Udp = 0
-numberOf Opening = 1
-numberOf SynAck = 2
-numberOf Closing = 3
-numberOf Plain = 4
-
+-- the kind that has a number
 abbrev numbered : ℕ → Kind
 numbered number =
     cond (eqb number 0) Udp (cond (eqb number 1) Opening (cond (eqb number 2) SynAck (cond (eqb number 3) Closing Plain)))
 
-told-apart : (kind : Kind) → numbered (numberOf kind) ≡ kind
+told-apart : (kind : Kind) → numbered (kindNumber kind) ≡ kind
 told-apart Udp = refl
 told-apart Opening = refl
 told-apart SynAck = refl
@@ -52,7 +45,7 @@ told-apart Plain = refl
 -- all 32 values of the four flags, and PSH beside them, by one test
 low-flags : (flags : ℕ) → flags < 32 → tcpKind (flagNumber flags) ≡ inWords flags
 unfolding every tcpKind
-low-flags = agree numberOf numbered told-apart 32 (λ flags. tcpKind (flagNumber flags)) inWords refl
+low-flags = agree kindNumber numbered told-apart 32 (λ flags. tcpKind (flagNumber flags)) inWords refl
 
 -- a bit is the same after a mask that leaves it: bit j of n, and of the low k + 1 + j bits of n
 same-bit : (n j k : ℕ) → n / 2 ^ j % 2 ≡ n % 2 ^ (k + 1 + j) / 2 ^ j % 2

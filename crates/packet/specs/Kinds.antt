@@ -1,4 +1,4 @@
--- Document 01, "Kinds of packet".
+-- Document 01, "Kinds of packet", with document 02, K5.
 -- Assumes nothing.
 use mathlib.Core.Bool.{Bool, cond, not, _&&_, _||_}
 use mathlib.Core.List.{[], _∷_}
@@ -8,6 +8,14 @@ use Rattle.laws.specs.Choice.{among}
 use Rattle.packet.specs.declared.kinds.Kind.{Kind}
 use Rattle.packet.specs.declared.kinds.Kind.the-variants.{Udp, Opening, SynAck, Closing, Plain}
 use Rattle.packet.specs.declared.Header.{Header}
+
+-- the kinds by numbers, in the order of document 02, K4: "The kind's values are UDP, opening, SYN+ACK, closing and plain."
+abbrev pub kindNumber : Kind → ℕ
+kindNumber Udp = 0
+kindNumber Opening = 1
+kindNumber SynAck = 2
+kindNumber Closing = 3
+kindNumber Plain = 4
 
 -- "UDP is protocol 17. TCP is protocol 6"
 abbrev pub udp : ℕ

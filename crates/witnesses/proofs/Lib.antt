@@ -1,3 +1,4 @@
--- That they do, and that it meets what is asked there.
+-- That they do, and that K5's case meets the premises of `opens-nothing`.
+pub mod Permuted
 pub mod Tight
 pub mod Tester

@@ -15,7 +15,7 @@ use Rattle.laws.specs.Search.{every, firstBelow, foremost}
 use Rattle.laws.specs.Times.{times, howMany}
 use Rattle.laws.proofs.Tests.{and-left, and-right}
 use Rattle.settings.specs.Settings.{badSettings}
-use Rattle.permute.specs.Permutation.{boxes, inverses, nibbles, round, rounds, unround, unrounds}
+use Rattle.permute.specs.Permutation.{inverses, nibbles, unround, unrounds}
 use Rattle.permute.specs.Permutation as permutation
 use Rattle.places.specs.Places.{slotOf, placeOf, addressOf}
 use Rattle.sides.specs.Lists.{badList, holds, rankAt, rankOf, bestNumber, bestIn, decided}
@@ -44,72 +44,10 @@ use Rattle.history.specs.Answered.{fours}
 use Rattle.books.proofs.Apart.{same-head, same-tail}
 use Rattle.promises.specs.Demand3.{EachBelow, StartsCold, OfBytes, site, first, happened, F, D, H, R, most, least}
 use Rattle.promises.proofs.Memory.{memory}
+use Rattle.witnesses.proofs.Permuted.{zeros, permuted}
 use Rattle.witnesses.specs.Tight.{gateway, syn, synAckBack, machine, all, exactly}
 
--- ---- the permutation, once for each word that the runs permute
-abbrev zeros : List ℕ
-zeros = replicate 8 0
-
--- by what the word is for: the plant address; that with a machine's; that with a port, for a slot; and a machine's address, for its line and tag
-record Words : Type 0 where
-  plant : permutation.E zeros 0xC0A80001 ≡ 0x62724ECF
-  plant-and-1 : permutation.E zeros 0x68724ECE ≡ 0x49433CB9
-  plant-and-2 : permutation.E zeros 0x68724ECD ≡ 0x550DBCB9
-  plant-and-3 : permutation.E zeros 0x68724ECC ≡ 0xCC0DBCBD
-  plant-and-4 : permutation.E zeros 0x68724ECB ≡ 0x300DBCBF
-  plant-and-5 : permutation.E zeros 0x68724ECA ≡ 0x8F0DBCBD
-  slot-1-80 : permutation.E zeros 0x49433CE9 ≡ 0x0DB16E70
-  slot-1-2049 : permutation.E zeros 0x494334B8 ≡ 0xEA986501
-  slot-1-4840 : permutation.E zeros 0x49432E51 ≡ 0x72001C82
-  slot-1-5432 : permutation.E zeros 0x49432981 ≡ 0x3E801D59
-  slot-1-6379 : permutation.E zeros 0x49432452 ≡ 0xE203CD58
-  slot-1-11211 : permutation.E zeros 0x49431772 ≡ 0xD0839F94
-  slot-1-27017 : permutation.E zeros 0x49435530 ≡ 0x0F43BA55
-  slot-2-4840 : permutation.E zeros 0x550DAE51 ≡ 0xB8504377
-  slot-2-6379 : permutation.E zeros 0x550DA452 ≡ 0xF1801B7E
-  slot-3-4840 : permutation.E zeros 0xCC0DAE55 ≡ 0x536F2A6B
-  slot-3-6379 : permutation.E zeros 0xCC0DA456 ≡ 0x20CE7826
-  slot-4-4840 : permutation.E zeros 0x300DAE57 ≡ 0x66227F23
-  slot-4-6379 : permutation.E zeros 0x300DA454 ≡ 0x5CAA7DED
-  slot-5-6379 : permutation.E zeros 0x8F0DA456 ≡ 0x9A801B7F
-  machine-1 : permutation.E zeros 0x0A000001 ≡ 0xFCE676E6
-  machine-2 : permutation.E zeros 0x0A000002 ≡ 0x732FCEE7
-  machine-3 : permutation.E zeros 0x0A000003 ≡ 0xF90E4EE6
-  machine-4 : permutation.E zeros 0x0A000004 ≡ 0x83294EE6
-  machine-5 : permutation.E zeros 0x0A000005 ≡ 0xC0FE76E7
-
-permuted : Words
-unfolding boxes nibbles round rounds permutation.E
-permuted =
-    record {
-      plant = refl;
-      plant-and-1 = refl;
-      plant-and-2 = refl;
-      plant-and-3 = refl;
-      plant-and-4 = refl;
-      plant-and-5 = refl;
-      slot-1-80 = refl;
-      slot-1-2049 = refl;
-      slot-1-4840 = refl;
-      slot-1-5432 = refl;
-      slot-1-6379 = refl;
-      slot-1-11211 = refl;
-      slot-1-27017 = refl;
-      slot-2-4840 = refl;
-      slot-2-6379 = refl;
-      slot-3-4840 = refl;
-      slot-3-6379 = refl;
-      slot-4-4840 = refl;
-      slot-4-6379 = refl;
-      slot-5-6379 = refl;
-      machine-1 = refl;
-      machine-2 = refl;
-      machine-3 = refl;
-      machine-4 = refl;
-      machine-5 = refl;
-    }
-
--- and back, for the two addresses that are replaced
+-- ---- the permutation back, for the two addresses that are replaced
 back : (permutation.D zeros 0xFCE676E6 ≡ 0x0A000001) × (permutation.D zeros 0xC0FE76E7 ≡ 0x0A000005)
 unfolding inverses nibbles unround unrounds permutation.D
 back = (refl, refl)

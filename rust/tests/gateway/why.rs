@@ -317,8 +317,8 @@ fn every_cell() {
     assert_eq!((cells.len(), dropped.len()), (40, 16));
 }
 
-/// The kinds of FIN 1, SYN 2, RST 4, PSH 8 and ACK 16 in all 32 ways: opening, SYN+ACK, closing and plain. Document 02, K5: "TCP SYN without
-/// ACK is opening, so 2, 3, 6 and 7 are; 18 stays SYN+ACK; 19, 22 and 23 stay plain." PSH is ignored.
+/// The kinds of FIN 1, SYN 2, RST 4, PSH 8 and ACK 16 in all 32 ways, by the number that they make: o opening, s SYN+ACK, c closing, p plain.
+/// Document 02, K5: "TCP SYN without ACK is opening, so 2, 3, 6 and 7 are; 18 stays SYN+ACK; 19, 22 and 23 stay plain." PSH is ignored.
 const BY_FLAGS: &[u8; 32] = b"pcoocpoopcoocpoopcspcppppcspcppp";
 
 /// Every byte of flags, from a blocked machine: the kind that is told where no mark is set, and every kind is dropped; and where the plant's
