@@ -138,10 +138,15 @@ pub const SHOWN_BY_BLOCKS: &str =
 /// A seed whose theme they are has at least one odd opening in so many records.
 const RECORDS_PER_ODD_OPENING: usize = 25;
 
-pub fn lacking_in_seed(seed: u64, records: usize, main: &Blocks) -> Option<String> {
-    let wanted = records / RECORDS_PER_ODD_OPENING;
-    let lacks = traffic::has_many_odd_openings(seed) && main.odd < wanted;
-    lacks.then(|| format!("seed {seed} has {} odd openings, and not {wanted}", main.odd))
+/// What the seeds' main captures, of so many records each, lack of odd openings. Some seed has to dwell on them.
+pub fn lacking_odd_openings(mains: &[(u64, Blocks)], records: usize) -> Vec<String> {
+    let wanted = (records / RECORDS_PER_ODD_OPENING).max(1);
+    let dwelling: Vec<_> = mains.iter().filter(|(seed, _)| traffic::dwells_on_odd_openings(*seed)).collect();
+    if dwelling.is_empty() {
+        return vec!["no seed dwells on odd openings".into()];
+    }
+    let few = dwelling.into_iter().filter(|(_, main)| main.odd < wanted);
+    few.map(|(seed, main)| format!("seed {seed} has {} odd openings, and not {wanted}", main.odd)).collect()
 }
 
 /// What can be reported has to come from seeds, and so has every sort of question; refusal 7 is left to the damaged captures.
@@ -155,9 +160,6 @@ pub fn lacking(seeds: &Blocks, all: &Blocks) -> Vec<String> {
     lacking.extend(not_asked.map(|sort| format!("no seed was asked for {sort}")));
     let unseen = ["R7", "R8"].into_iter().filter(|name| all.printed.seen(name) == 0);
     lacking.extend(unseen.map(|name| format!("no {name} was seen")));
-    if seeds.odd == 0 {
-        lacking.push("no seed has an odd opening where the plant's mark is set".into());
-    }
     let unknown = all.unknown + all.printed.unknown;
     if unknown > 0 {
         lacking.push(format!("{unknown} lines have no known form"));

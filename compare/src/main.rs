@@ -160,8 +160,7 @@ fn why_all(asked: &Asked, amount: &Amount) -> Result<bool, String> {
     }
     report::row("totals", "", &sum, "");
     let mut lacking = blocks::lacking(&seeds, &sum.counts);
-    let in_seed = |(seed, main): &(u64, Blocks)| blocks::lacking_in_seed(*seed, amount.records, main);
-    lacking.extend(from_seeds.mains.iter().filter_map(in_seed));
+    lacking.extend(blocks::lacking_odd_openings(&from_seeds.mains, amount.records));
     report.add_vacuity(&lacking, blocks::SHOWN_BY_BLOCKS);
     Ok(report.finish())
 }

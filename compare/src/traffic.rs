@@ -58,6 +58,9 @@ struct Theme {
     scenes: [u32; 12],
 }
 
+/// The place of `Traffic::odd_openings` among the scenes.
+const ODD_OPENINGS: usize = 11;
+
 /// A seed's theme is the one at its remainder by six: odd frames; every day; a crowd at few plant addresses; scans, and testers'
 /// odd openings; pauses; time that almost stands still, over a crowd.
 const THEMES: [Theme; 6] = [
@@ -82,9 +85,14 @@ struct Traffic {
     turn: u8,
 }
 
-/// Whether a seed's theme is the one with many odd openings.
-pub fn has_many_odd_openings(seed: u64) -> bool {
-    seed % 6 == 3
+fn theme_of(seed: u64) -> &'static Theme {
+    &THEMES[(seed % THEMES.len() as u64) as usize]
+}
+
+/// Whether a seed's theme plays no scene more often than odd openings.
+pub fn dwells_on_odd_openings(seed: u64) -> bool {
+    let scenes = theme_of(seed).scenes;
+    scenes.iter().max() == Some(&scenes[ODD_OPENINGS])
 }
 
 /// Not by parity alone, so that each theme meets both orders.
@@ -107,7 +115,7 @@ pub fn make(seed: u64, records: usize, order: Order) -> Capture {
         _ => random.word(),
     };
     let scanners = [(); 5].map(|_| cell_address(random.word()));
-    let theme = &THEMES[(seed % 6) as usize];
+    let theme = theme_of(seed);
     let mut traffic = Traffic { random, theme, capture, wanted: records, clock, scanners, known: Vec::new(), turn: 0 };
     traffic.begin();
     while traffic.capture.records < records {
@@ -239,8 +247,8 @@ impl Traffic {
             7 => self.pauses(),
             8 => self.edges(),
             9 => self.odd_frames(),
-            10 => self.back_in_time(),
-            _ => self.odd_openings(),
+            ODD_OPENINGS => self.odd_openings(),
+            _ => self.back_in_time(),
         }
     }
 
