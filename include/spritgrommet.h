@@ -23,6 +23,17 @@
  *   9  writing a capture: the header or the record needs more room than is left
  * A call tests in rising number those for which it has an input, but header tests have their own order: fewer than 20 bytes, 5; then 6;
  * then bytes fewer than the header length, 5; then transport. For frames, see `spritgrommet_frame`.
+ *
+ * Standing inline. A program that forwards frames between cell and plant by these answers has three things to see to itself, or it can be
+ * walked around:
+ *   - Sides are told by addresses alone. A machine of the cell that sends packets with a plant address as their source is taken for the
+ *     plant: it marks connections as answered, and so earns itself credit. Let a frame in only if its source address belongs to the side
+ *     that it came from: `spritgrommet_winner` tells, 1 for what comes in from the cell and 2 for what comes in from the plant. Drop any
+ *     other, and do not show it to the gateway.
+ *   - Verdict 0 says that a packet is not between cell and plant, or that a frame is not plain IPv4. It is no leave to forward: behind it
+ *     go 802.1Q-tagged frames (also with VLAN 0, which many systems take as untagged), IPv6, ARP and every other EtherType, from blocked
+ *     machines too. Decide on frames that are not plain IPv4 by yourself, before you forward any; where you have no rule for one, drop it.
+ *   - What is refused was not judged. Hold it back.
  */
 #ifndef SPRITGROMMET_H
 #define SPRITGROMMET_H
@@ -220,7 +231,7 @@ static inline uint8_t spritgrommet_time(struct spritgrommet *gateway, uint32_t t
 }
 
 /* Judges a packet, from its IPv4 header on, that comes at a time. Answers a refusal, 1 to 6, or the verdict: 5 and 6 are dropped, 1 to 4
- * forwarded; 0 is not the gateway's to judge. */
+ * forwarded; 0 is not the gateway's to judge, and no leave to forward ("Standing inline", above). What is refused is held back. */
 static inline struct spritgrommet_answer spritgrommet_packet(struct spritgrommet *gateway, uint32_t time, const uint8_t *packet,
                                                              size_t length)
 {

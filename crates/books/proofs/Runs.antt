@@ -48,7 +48,7 @@ use Rattle.gateway.specs.Packets.{Outcome, outcomeOf, replacementOf, entered, o
 use Rattle.refusals.proofs.Tests.{time-in-order, packet-in-order}
 use Rattle.gateway.specs.declared.Reply.{Reply}
 use Rattle.gateway.specs.declared.Reply.the-variants.{Refused, Done}
-use Rattle.gateway.specs.Calls.{State, After, orElse, unlessRefused, timeRefusalAt, onward, passed, packetRefusal, accepted, judged}
+use Rattle.gateway.specs.Calls.{State, After, numberOr, unlessRefused, timeRefusalAt, onward, passed, packetRefusal, accepted, judged}
 use Rattle.history.specs.Runs.{Site, Call, packetAt, timeAlone, Event, judgedAt, passedAt, stateAfter, eventOf, left, history}
 use Rattle.history.specs.Answered.{isFour, fours}
 use Rattle.history.specs.Fresh.{Ours, comesFromPlant, oursOf, cellAddress, creditOf, names, replacements, unlessRefusedBy, clockAfter, slotFor, forwardedOn, decays, credits, isFresh, freshContacts}
@@ -491,7 +491,7 @@ module _ (x : Setup) (start : State) where
         packet-in-order (site .settings) (length (s .tables .records)) (length (s .tables .tags)) (length (s .tables .counts)) (site .cell) (site .plant) (s .clock) time
         (first-none _ (headerRefusal bytes) e)
       where
-        first-none : (m n : ℕ) → orElse m n ≡ 0 → m ≡ 0
+        first-none : (m n : ℕ) → numberOr m n ≡ 0 → m ≡ 0
         first-none zero n q = refl
         first-none (suc m) n q = q
 

@@ -31,7 +31,7 @@ use Rattle.tables.specs.Tables.{Tables, tablesOf}
 use Rattle.refusals.specs.Refusals.{earlyRefusal}
 use Rattle.gateway.specs.declared.Spot.{Spot}
 use Rattle.gateway.specs.Packets.{Outcome, outcomeOf, replacementOf, entered, spotOf, rulingAt, settled, ours, directionIn, isOurs, isFromPlant, byDirection}
-use Rattle.gateway.specs.Calls.{State, After, orElse, bySizes, unlessRefused, accepted, judged}
+use Rattle.gateway.specs.Calls.{State, After, numberOr, bySizes, unlessRefused, accepted, judged}
 
 -- ---- refusals
 module _ {A : Type 0} (refused : ℕ → A) (before : State) (after : After A) where
@@ -126,11 +126,11 @@ pub was-read : (k : ℕ) (h found : Header) → answered k h ≡ Packet found �
 was-read zero h found e = (refl, ap (headerIn h) e)
 was-read (suc k) h found e = true-is-not-false refl (ap isUnread e)
 
-pub or-else : (first : ℕ) {n k : ℕ} → first ≡ 0 → n ≡ k → n ≡ orElse first k
+pub or-else : (first : ℕ) {n k : ℕ} → first ≡ 0 → n ≡ k → n ≡ numberOr first k
 or-else zero z e = e
 or-else (suc m) z e = absurd (omega arith)
 
-pub first-of-two : (first k : ℕ) {n : ℕ} → n ≡ first → (n ≡ 0 → ⊥) → n ≡ orElse first k
+pub first-of-two : (first k : ℕ) {n : ℕ} → n ≡ first → (n ≡ 0 → ⊥) → n ≡ numberOr first k
 first-of-two zero k e ne = absurd (ne e)
 first-of-two (suc m) k e ne = e
 

@@ -37,9 +37,9 @@ afterOf answer records tags counts clock = record { answer = answer; state = sta
 
 -- ---- refusals
 -- a number, or where it is 0 another
-abbrev pub orElse : ℕ → ℕ → ℕ
-orElse zero other = other
-orElse (suc n) other = suc n
+abbrev pub numberOr : ℕ → ℕ → ℕ
+numberOr zero other = other
+numberOr (suc n) other = suc n
 
 -- "All caller memory keeps its contents."
 abbrev pub unlessRefused : {A : Type 0} → (ℕ → A) → ℕ → State → After A → After A
@@ -88,7 +88,7 @@ passed rules settings time before =
 -- the numbers 1 to 4 first, "but header tests have their own order"
 abbrev pub packetRefusal : Settings → List ℕ → List ℕ → ℕ → List ℕ → State → ℕ
 packetRefusal settings cell plant time bytes before =
-    orElse
+    numberOr
     (bySizes (earlyRefusal settings) (before .tables) cell plant (before .clock) time)
     (headerRefusal bytes)
 

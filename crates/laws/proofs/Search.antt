@@ -1,4 +1,4 @@
--- Laws of `every`, `some`, `firstBelow` and `foremost`, and the invariant of every loop that searches.
+-- Laws of `every`, `someBelow`, `firstBelow` and `foremost`, and the invariant of every loop that searches.
 -- Assumes nothing.
 use mathlib.Core.Path.{_≡_, refl, sym, ap, subst, _∙_}
 use mathlib.Core.Bool.{Bool, true, false, _&&_, _||_, cond}
@@ -10,7 +10,7 @@ use native.Mathlib.Omega.{arith}
 use lib.Dec.{leb}
 use borrow.Author.Count.{below-none, below-more}
 use borrow.Author.Tests.{le-leb, leb-true, leb-false}
-use Rattle.laws.specs.Search.{every, some, firstBelow, foremost}
+use Rattle.laws.specs.Search.{every, someBelow, firstBelow, foremost}
 use Rattle.laws.proofs.Tests.{true-is-not-false, is-false, and-left, and-right, and-yes, or-yes, cond-at}
 
 -- ---- every
@@ -64,28 +64,28 @@ pub record Passing (n : ℕ) (p : ℕ → Bool) : Type 0 where
   pub below : number < n
   pub passes : p number ≡ true
 
-pub some-is : (n : ℕ) (p : ℕ → Bool) → Passing n p → some n p ≡ true
-unfolding some
+pub some-is : (n : ℕ) (p : ℕ → Bool) → Passing n p → someBelow n p ≡ true
+unfolding someBelow
 some-is zero p at = absurd (not-suc-le-zero (at .below))
 some-is (suc n) p at =
     elim (decLt (at .number) n) [
       | yes l ↦ or-yes (p n) (some-is n p (record { number = at .number; below = l; passes = at .passes }))
-      | no l ↦ let same : n ≡ at .number = omega (arith, at .below) in ap (λ (b : Bool). b || some n p) (ap p same ∙ at .passes)
+      | no l ↦ let same : n ≡ at .number = omega (arith, at .below) in ap (λ (b : Bool). b || someBelow n p) (ap p same ∙ at .passes)
     ]
 
-pub some-at : (n : ℕ) (p : ℕ → Bool) → some n p ≡ true → Passing n p
-unfolding some
+pub some-at : (n : ℕ) (p : ℕ → Bool) → someBelow n p ≡ true → Passing n p
+unfolding someBelow
 some-at zero p e = true-is-not-false e refl
 some-at (suc n) p e = go (p n) refl (some-at n p)
   where
-    go : (t : Bool) → p n ≡ t → (some n p ≡ true → Passing n p) → Passing (suc n) p
+    go : (t : Bool) → p n ≡ t → (someBelow n p ≡ true → Passing n p) → Passing (suc n) p
     go true h others = record { number = n; below = omega arith; passes = h }
     go false h others =
-        let rest = others (sym (ap (λ (b : Bool). b || some n p) h) ∙ e) in
+        let rest = others (sym (ap (λ (b : Bool). b || someBelow n p) h) ∙ e) in
         record { number = rest .number; below = omega (arith, rest .below); passes = rest .passes }
 
-pub some-none : (n : ℕ) (p : ℕ → Bool) → ((k : ℕ) → k < n → p k ≡ false) → some n p ≡ false
-some-none n p h = is-false (some n p) (λ t. let at = some-at n p t in true-is-not-false (at .passes) (h (at .number) (at .below)))
+pub some-none : (n : ℕ) (p : ℕ → Bool) → ((k : ℕ) → k < n → p k ≡ false) → someBelow n p ≡ false
+some-none n p h = is-false (someBelow n p) (λ t. let at = some-at n p t in true-is-not-false (at .passes) (h (at .number) (at .below)))
 
 -- ---- the first
 -- the test fails below k and passes at k: k is the first

@@ -9,9 +9,9 @@ every zero p = true
 every (suc n) p = p n && every n p
 
 -- the test passes at some number below n
-unfoldable pub some : ℕ → (ℕ → Bool) → Bool
-some zero p = false
-some (suc n) p = p n || some n p
+unfoldable pub someBelow : ℕ → (ℕ → Bool) → Bool
+someBelow zero p = false
+someBelow (suc n) p = p n || someBelow n p
 
 -- the first number below n that passes the test, or n where none does
 unfoldable pub firstBelow : ℕ → (ℕ → Bool) → ℕ

@@ -6,7 +6,7 @@ use mathlib.Core.Path.{_≡_, refl, sym, ap, _∙_}
 use Prim.Native.Nat.{ℕ, _+_, _-_, _<_, _≤_}
 use native.Mathlib.Omega.{arith}
 use lib.IntN.{ℤ, pos, negsuc, natAbs}
-use Rattle.laws.specs.Search.{some}
+use Rattle.laws.specs.Search.{someBelow}
 use Rattle.laws.specs.Choice.{atSome}
 use Rattle.laws.proofs.Search.{some-is, some-at, some-none}
 use Rattle.laws.proofs.Signed.{signed, difference-is, size, one-part}
@@ -61,7 +61,7 @@ no-help false cell kind e = when-blocked false cell kind
 module _ (threshold : ℕ) (facts : Facts) where
   -- some count that an entry may hold is below any threshold, and no other lets more through
   count-is : through false (facts .plant) (facts .cell) (facts .kind)
-      ≡ some heldCounts (λ number. passes threshold (withCount facts (heldCount number)))
+      ≡ someBelow heldCounts (λ number. passes threshold (withCount facts (heldCount number)))
   count-is = go (through false (facts .plant) (facts .cell) (facts .kind)) refl
     where
       by : (blocked : Bool) → through false (facts .plant) (facts .cell) (facts .kind) ≡ false
@@ -70,7 +70,7 @@ module _ (threshold : ℕ) (facts : Facts) where
       by true e = no-help (facts .plant) (facts .cell) (facts .kind) e
 
       go : (t : Bool) → through false (facts .plant) (facts .cell) (facts .kind) ≡ t
-          → t ≡ some heldCounts (λ number. passes threshold (withCount facts (heldCount number)))
+          → t ≡ someBelow heldCounts (λ number. passes threshold (withCount facts (heldCount number)))
       go true e = sym (some-is heldCounts _ (record { number = 32766; below = omega arith; passes = e }))
       go false e = sym (some-none heldCounts _ (λ number h. by (isBlocked threshold (heldCount number)) e))
 

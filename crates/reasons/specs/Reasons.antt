@@ -4,7 +4,7 @@ use mathlib.Core.Bool.{Bool, true, false}
 use mathlib.Core.List.{List, [], _∷_}
 use Prim.Native.Nat.{ℕ}
 use lib.IntN.{ℤ, pos, _-ℤ_}
-use Rattle.laws.specs.Search.{some}
+use Rattle.laws.specs.Search.{someBelow}
 use Rattle.laws.specs.Choice.{atSome}
 use Rattle.packet.specs.declared.kinds.Kind.{Kind}
 use Rattle.packet.specs.declared.kinds.Kind.the-variants.{Udp, Opening, SynAck, Closing, Plain}
@@ -66,7 +66,7 @@ kindValues = Udp ∷ (Opening ∷ (SynAck ∷ (Closing ∷ (Plain ∷ []))))
 unfoldable pub reportedOn : ℕ → Facts → Reported
 reportedOn threshold facts =
     record {
-      count = some heldCounts (λ number. passes threshold (withCount facts (heldCount number)));
+      count = someBelow heldCounts (λ number. passes threshold (withCount facts (heldCount number)));
       «plant_mark» = atSome (λ mark. passes threshold (withPlant facts mark)) markValues;
       «cell_mark» = atSome (λ mark. passes threshold (withCell facts mark)) markValues;
       kind = atSome (λ kind. passes threshold (withKind facts kind)) kindValues;

@@ -15,7 +15,7 @@ use Rattle.tables.specs.Sizes.{badSizes}
 use Rattle.rulings.specs.Answers.{refusalTold}
 use Rattle.rulings.specs.Rules.{document01}
 use Rattle.refusals.specs.Refusals.{startRefusal, earlyRefusal}
-use Rattle.gateway.specs.Calls.{State, orElse, packetRefusal, coldState, started, judged}
+use Rattle.gateway.specs.Calls.{State, numberOr, packetRefusal, coldState, started, judged}
 use Rattle.gateway.proofs.Refusals.{packet-told}
 use Rattle.replay.specs.Replay.{programSettings, cellList, plantList, startedFirst}
 
@@ -28,7 +28,7 @@ module _ (time : ℕ) (before : State) (records : length (before .tables .record
 
   module _ (bytes : List ℕ) where
     abbrev fourOrHeader : ℕ
-    fourOrHeader = orElse (cond (ltb time (before .clock)) 4 0) (headerRefusal bytes)
+    fourOrHeader = numberOr (cond (ltb time (before .clock)) 4 0) (headerRefusal bytes)
 
     no-other : packetRefusal programSettings cellList plantList time bytes before ≡ fourOrHeader
     unfolding every earlyRefusal badSettings badSizes badList
