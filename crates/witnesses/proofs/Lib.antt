@@ -2,3 +2,4 @@
 pub mod Permuted
 pub mod Tight
 pub mod Tester
+pub mod MustNotPass

@@ -53,30 +53,30 @@ unfolding inverses nibbles unround unrounds permutation.D
 back = (refl, refl)
 
 -- ---- a call, what it is answered, and the state that it leaves
-record Row : Type 0 where
-  time : ℕ
-  bytes : List ℕ
-  verdict : Verdict
-  count : ℤ
-  replaced : Replacement
-  state : State
+pub record Row : Type 0 where
+  pub time : ℕ
+  pub bytes : List ℕ
+  pub verdict : Verdict
+  pub count : ℤ
+  pub replaced : Replacement
+  pub state : State
 
 abbrev row : ℕ → List ℕ → Verdict → ℤ → Replacement → State → Row
 row time bytes verdict count replaced state =
     record { time = time; bytes = bytes; verdict = verdict; count = count; replaced = replaced; state = state }
 
 -- the state before a row is the one that the row before it left
-abbrev stateBefore : List Row → State
+abbrev pub stateBefore : List Row → State
 stateBefore [] = stateOf (replicate 16 0) (replicate 4 0) (replicate 4 (minus 32768)) 100
 stateBefore (row ∷ rows) = row .state
 
 -- what the gateway makes of each, and what is said of it
-abbrev made : List Row → List (After Answer)
+abbrev pub made : List Row → List (After Answer)
 made [] = []
 made (row ∷ rows) =
     judged document01 (gateway .settings) (gateway .cell) (gateway .plant) (row .time) (row .bytes) (stateBefore rows) ∷ made rows
 
-abbrev said : List Row → List (After Answer)
+abbrev pub said : List Row → List (After Answer)
 said [] = []
 said (row ∷ rows) = record { answer = Judged (row .verdict) (row .count) (row .replaced); state = row .state } ∷ said rows
 
@@ -87,15 +87,19 @@ abbrev eventsOf : List Row → List Event
 eventsOf rows = map (λ row. judgedAt (row .time) (row .bytes) (Judged (row .verdict) (row .count) (row .replaced))) rows
 
 -- ---- the runs, newest first
+-- the first two packets: a contact, and its answer
+abbrev pub openingRows : List Row
+openingRows =
+    row 100 (synAckBack 1 6379) CreditOfTwo (minus 1) None (stateOf (0 ∷ 0 ∷ 0 ∷ 0 ∷ 0 ∷ 0 ∷ 0 ∷ 0 ∷ 192 ∷ 0 ∷ 0 ∷ 0 ∷ 0 ∷ 0 ∷ 0 ∷ 0 ∷ []) (0xFCE676E6 ∷ 0 ∷ 0 ∷ 0 ∷ []) (minus 1 ∷ minus 32768 ∷ minus 32768 ∷ minus 32768 ∷ []) 100) ∷
+    row 100 (syn 1 6379) FreshContact (pos 1) None (stateOf (0 ∷ 0 ∷ 0 ∷ 0 ∷ 0 ∷ 0 ∷ 0 ∷ 0 ∷ 64 ∷ 0 ∷ 0 ∷ 0 ∷ 0 ∷ 0 ∷ 0 ∷ 0 ∷ []) (0xFCE676E6 ∷ 0 ∷ 0 ∷ 0 ∷ []) (pos 1 ∷ minus 32768 ∷ minus 32768 ∷ minus 32768 ∷ []) 100) ∷ []
+
 -- all that is allowed, up to where others come in, and from there on
 abbrev firstRows : List Row
 firstRows =
     row 120 (syn 1 5432) FreshContact (pos 2) None (stateOf (65 ∷ 0 ∷ 65 ∷ 0 ∷ 65 ∷ 0 ∷ 0 ∷ 0 ∷ 193 ∷ 64 ∷ 0 ∷ 0 ∷ 0 ∷ 0 ∷ 0 ∷ 0 ∷ []) (0xFCE676E6 ∷ 0 ∷ 0 ∷ 0 ∷ []) (pos 2 ∷ minus 32768 ∷ minus 32768 ∷ minus 32768 ∷ []) 120) ∷
     row 100 (syn 1 80) FreshContact (pos 2) None (stateOf (64 ∷ 0 ∷ 64 ∷ 0 ∷ 64 ∷ 0 ∷ 0 ∷ 0 ∷ 192 ∷ 0 ∷ 0 ∷ 0 ∷ 0 ∷ 0 ∷ 0 ∷ 0 ∷ []) (0xFCE676E6 ∷ 0 ∷ 0 ∷ 0 ∷ []) (pos 2 ∷ minus 32768 ∷ minus 32768 ∷ minus 32768 ∷ []) 100) ∷
     row 100 (syn 1 11211) FreshContact (pos 1) None (stateOf (0 ∷ 0 ∷ 64 ∷ 0 ∷ 64 ∷ 0 ∷ 0 ∷ 0 ∷ 192 ∷ 0 ∷ 0 ∷ 0 ∷ 0 ∷ 0 ∷ 0 ∷ 0 ∷ []) (0xFCE676E6 ∷ 0 ∷ 0 ∷ 0 ∷ []) (pos 1 ∷ minus 32768 ∷ minus 32768 ∷ minus 32768 ∷ []) 100) ∷
-    row 100 (syn 1 4840) FreshContact (pos 0) None (stateOf (0 ∷ 0 ∷ 64 ∷ 0 ∷ 0 ∷ 0 ∷ 0 ∷ 0 ∷ 192 ∷ 0 ∷ 0 ∷ 0 ∷ 0 ∷ 0 ∷ 0 ∷ 0 ∷ []) (0xFCE676E6 ∷ 0 ∷ 0 ∷ 0 ∷ []) (pos 0 ∷ minus 32768 ∷ minus 32768 ∷ minus 32768 ∷ []) 100) ∷
-    row 100 (synAckBack 1 6379) CreditOfTwo (minus 1) None (stateOf (0 ∷ 0 ∷ 0 ∷ 0 ∷ 0 ∷ 0 ∷ 0 ∷ 0 ∷ 192 ∷ 0 ∷ 0 ∷ 0 ∷ 0 ∷ 0 ∷ 0 ∷ 0 ∷ []) (0xFCE676E6 ∷ 0 ∷ 0 ∷ 0 ∷ []) (minus 1 ∷ minus 32768 ∷ minus 32768 ∷ minus 32768 ∷ []) 100) ∷
-    row 100 (syn 1 6379) FreshContact (pos 1) None (stateOf (0 ∷ 0 ∷ 0 ∷ 0 ∷ 0 ∷ 0 ∷ 0 ∷ 0 ∷ 64 ∷ 0 ∷ 0 ∷ 0 ∷ 0 ∷ 0 ∷ 0 ∷ 0 ∷ []) (0xFCE676E6 ∷ 0 ∷ 0 ∷ 0 ∷ []) (pos 1 ∷ minus 32768 ∷ minus 32768 ∷ minus 32768 ∷ []) 100) ∷ []
+    row 100 (syn 1 4840) FreshContact (pos 0) None (stateOf (0 ∷ 0 ∷ 64 ∷ 0 ∷ 0 ∷ 0 ∷ 0 ∷ 0 ∷ 192 ∷ 0 ∷ 0 ∷ 0 ∷ 0 ∷ 0 ∷ 0 ∷ 0 ∷ []) (0xFCE676E6 ∷ 0 ∷ 0 ∷ 0 ∷ []) (pos 0 ∷ minus 32768 ∷ minus 32768 ∷ minus 32768 ∷ []) 100) ∷ openingRows
 
 abbrev allRows : List Row
 allRows =
@@ -119,15 +123,19 @@ exactlyRows =
 and-then : {x y : After Answer} {xs ys : List (After Answer)} → x ≡ y → xs ≡ ys → x ∷ xs ≡ y ∷ ys
 and-then p q = λ i. p i ∷ q i
 
+pub opening-made : made openingRows ≡ said openingRows
+unfolding times howMany every firstBelow foremost badSettings slotOf placeOf addressOf badList holds rankAt rankOf bestNumber bestIn decided tcpKind kindOf needed headerRefusal transportOf headerOf minutePassed agedBy isEmpty larger smaller pointLess decayedBy ownWay countIn emptyWay smallestWay roomFor countOf written badSizes multiplesPassed timePassed fromThePlant fromTheCell fromBlockedCell verdictOf recordAfter countWritten rulingOf earlyRefusal ours byDirection judged
+opening-made =
+    and-then (rw (permuted .plant, permuted .plant-and-1, permuted .slot-1-6379, permuted .machine-1) refl)
+    (and-then (rw (permuted .plant, permuted .plant-and-1, permuted .slot-1-6379, permuted .machine-1) refl) refl)
+
 first-made : made firstRows ≡ said firstRows
 unfolding times howMany every firstBelow foremost badSettings slotOf placeOf addressOf badList holds rankAt rankOf bestNumber bestIn decided tcpKind kindOf needed headerRefusal transportOf headerOf minutePassed agedBy isEmpty larger smaller pointLess decayedBy ownWay countIn emptyWay smallestWay roomFor countOf written badSizes multiplesPassed timePassed fromThePlant fromTheCell fromBlockedCell verdictOf recordAfter countWritten rulingOf earlyRefusal ours byDirection judged
 first-made =
     and-then (rw (permuted .plant, permuted .plant-and-1, permuted .slot-1-5432, permuted .machine-1) refl)
     (and-then (rw (permuted .plant, permuted .plant-and-1, permuted .slot-1-80, permuted .machine-1) refl)
     (and-then (rw (permuted .plant, permuted .plant-and-1, permuted .slot-1-11211, permuted .machine-1) refl)
-    (and-then (rw (permuted .plant, permuted .plant-and-1, permuted .slot-1-4840, permuted .machine-1) refl)
-    (and-then (rw (permuted .plant, permuted .plant-and-1, permuted .slot-1-6379, permuted .machine-1) refl)
-    (and-then (rw (permuted .plant, permuted .plant-and-1, permuted .slot-1-6379, permuted .machine-1) refl) refl)))))
+    (and-then (rw (permuted .plant, permuted .plant-and-1, permuted .slot-1-4840, permuted .machine-1) refl) opening-made)))
 
 all-made : made allRows ≡ said allRows
 unfolding times howMany every firstBelow foremost badSettings slotOf placeOf addressOf badList holds rankAt rankOf bestNumber bestIn decided tcpKind kindOf needed headerRefusal transportOf headerOf minutePassed agedBy isEmpty larger smaller pointLess decayedBy ownWay countIn emptyWay smallestWay roomFor countOf written badSizes multiplesPassed timePassed fromThePlant fromTheCell fromBlockedCell verdictOf recordAfter countWritten rulingOf earlyRefusal ours byDirection judged
@@ -152,7 +160,7 @@ exactly-made =
     (and-then (rw (permuted .plant, permuted .plant-and-1, permuted .slot-1-6379, permuted .machine-1) refl) refl))
 
 -- ---- so the runs are these
-abbrev cold : State
+abbrev pub cold : State
 cold = stateBefore []
 
 left-is : (rows : List Row) → made rows ≡ said rows → left document01 (site gateway) cold (callsOf rows) ≡ stateBefore rows
@@ -174,7 +182,7 @@ history-is (row ∷ rows) e =
         ap (λ (s : State). judged document01 (gateway .settings) (gateway .cell) (gateway .plant) (row .time) (row .bytes) s .answer) (left-is rows (same-tail e))
         ∙ ap (λ (after : After Answer). after .answer) (same-head e)
 
-cold-is : first gateway ≡ cold
+pub cold-is : first gateway ≡ cold
 unfolding started startRefusal badSettings badSizes coldTables
 cold-is = refl
 
