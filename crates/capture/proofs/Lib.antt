@@ -4,3 +4,4 @@ pub mod Whole
 pub mod Pieces
 pub mod Writings
 pub mod Roundtrip
+pub mod Refusals

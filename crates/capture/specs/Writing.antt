@@ -2,6 +2,7 @@
 -- Assumes nothing.
 use mathlib.Core.Bool.{false, cond}
 use mathlib.Core.List.{List, [], _∷_}
+use mathlib.Core.Option.{Option, none, some}
 use Prim.Native.Nat.{ℕ, _+_}
 use lib.Dec.{ltb, leb}
 use lib.ListN.{length}
@@ -43,7 +44,11 @@ recordsPut (r ∷ records) before = recordsPut records (nextPut r (before .answe
 abbrev pub capturePut : List Content → ℕ → List ℕ → Put
 capturePut records at room = recordsPut records (headerPut at room)
 
--- the paper's number for each case of the answer, and 0 for what is not refused
+-- the paper's number for each case of the answer, 0 for what is not refused, and the place after what was written, if it was
 abbrev pub writeRefusal : Written → ℕ
 writeRefusal (Refused number) = number
 writeRefusal (Next at) = 0
+
+abbrev pub placeTold : Written → Option ℕ
+placeTold (Refused number) = none
+placeTold (Next at) = some at

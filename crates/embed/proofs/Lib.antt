@@ -1,2 +1,3 @@
 -- What is proved of answers in plain numbers beyond the contracts.
 pub mod Numbers
+pub mod Captures

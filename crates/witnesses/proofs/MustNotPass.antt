@@ -1,9 +1,9 @@
 -- A gateway that meets the contracts is none of the four that must not pass: a cold start, the first two packets of specs/Tight's first run
 -- and a minute boundary after the first of them tell it from each.
 -- Assumes nothing.
-use mathlib.Core.List.{List, [], _∷_}
+use mathlib.Core.List.{List}
 use mathlib.Core.Option.{Option, none, some}
-use mathlib.Core.Path.{_≡_, refl, sym, ap, _∙_}
+use mathlib.Core.Path.{_≡_, refl, ap, _∙_}
 use Prim.Native.Nat.{ℕ}
 use native.Mathlib.Omega.{arith}
 use lib.IntN.{pos}
@@ -25,7 +25,7 @@ use Rattle.gateway.specs.Calls.{State, After, passed, judged}
 use Rattle.books.proofs.Apart.{same-head, same-tail}
 use Rattle.witnesses.specs.Tight.{gateway, syn, synAckBack}
 use Rattle.witnesses.specs.MustNotPass.{AnyGateway, MeetsContracts, MustNotPass}
-use Rattle.witnesses.proofs.Tight.{Row, stateBefore, said, openingRows, opening-made, cold, cold-is}
+use Rattle.witnesses.proofs.Tight.{stateBefore, openingRows, opening-made, cold, cold-is}
 
 -- a number that tells verdicts apart
 abbrev numberIn : Option ℕ → ℕ
@@ -94,13 +94,13 @@ module _ (g : AnyGateway) (m : MeetsContracts g) where
           arith,
           ap numberIn (one (gateway .settings) (gateway .cell) (gateway .plant) 100 (syn 1 6379) cold),
           ap verdict (by-contract (syn 1 6379) cold),
-          contact .1 .0,
+          contact .1,
         ));
         tables-by-packets = λ none. absurd (omega (
           arith,
           ap slot8 (none (gateway .settings) (gateway .cell) (gateway .plant) 100 (syn 1 6379) cold),
           ap (λ (a : After Answer). slot8 (a .state .tables)) (by-contract (syn 1 6379) cold),
-          contact .1 .1,
+          contact .2,
         ));
         tables-by-time = λ none. absurd (omega (
           arith,
@@ -119,7 +119,7 @@ module _ (g : AnyGateway) (m : MeetsContracts g) where
           (repeats (gateway .settings) (gateway .cell) (gateway .plant) (gateway .lent) 100 100 100 (syn 1 6379) (synAckBack 1 6379)),
           ap (λ (s : State). verdict (judgedBy (syn 1 6379) s)) started-cold,
           ap verdict (by-contract (syn 1 6379) cold),
-          contact .1 .0,
+          contact .1,
           ap (λ (s : State). verdict (judgedBy (synAckBack 1 6379) (judgedBy (syn 1 6379) s .state))) started-cold,
           ap (λ (a : After Answer). verdict (judgedBy (synAckBack 1 6379) (a .state))) (by-contract (syn 1 6379) cold),
           ap verdict (by-contract (synAckBack 1 6379) (first .state)),
