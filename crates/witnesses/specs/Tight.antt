@@ -37,8 +37,8 @@ abbrev pub machine : ℕ
 machine = 0x0A000001
 
 -- ---- all that is allowed (newest first, the verdicts beside)
-abbrev pub all : List Call
-all =
+abbrev pub allowed : List Call
+allowed =
     packetAt 120 (syn 1 2049) ∷  -- 6: it has had all
     packetAt 120 (syn 1 2049) ∷  -- 4
     packetAt 120 (syn 1 27017) ∷  -- 4: its count was forgotten (R)
