@@ -1,4 +1,4 @@
--- Tests, lists, answers and events told apart: what equal ones have in common, and which are never equal.
+-- Tests and lists told apart: what equal ones have in common, and which are never equal.
 -- Assumes nothing.
 use mathlib.Core.Bool.{Bool, true, false, not}
 use mathlib.Core.List.{List, [], _∷_}
@@ -7,7 +7,6 @@ use mathlib.Core.Path.{_≡_, refl}
 use Prim.Native.Nat.{ℕ}
 use native.Mathlib.Omega.{arith}
 use lib.IntN.{ℤ}
-use Rattle.history.specs.Runs.{Event}
 
 pub twice-not : (t : Bool) → not (not t) ≡ t
 twice-not true = refl
@@ -22,5 +21,5 @@ same-head e = cc
 pub same-tail : {A : Type 0} {x y : A} {xs ys : List A} → x ∷ xs ≡ y ∷ ys → xs ≡ ys
 same-tail e = cc
 
-pub not-nil : {y : Event} {ys : List Event} → [] ≡ y ∷ ys → ⊥
+pub not-nil : {A : Type 0} {y : A} {ys : List A} → [] ≡ y ∷ ys → ⊥
 not-nil e = let z : _≡_ {A = ℕ} 0 1 = cc in omega arith

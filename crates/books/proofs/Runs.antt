@@ -1,5 +1,5 @@
 -- Any run over lawful rules, from any good start: what each call keeps true of the state and of the history that led to it. From it the
--- bound on fresh contacts and the least before a block.
+-- bound on fresh contacts and the least before a block, and that 4 is answered exactly to fresh contacts.
 -- Assumes nothing.
 use mathlib.Core.Bool.{Bool, true, false, not, _&&_, cond, and-false, and-true}
 use mathlib.Core.List.{List, [], _∷_, _++_, map}
@@ -208,6 +208,24 @@ module _ (x : Setup) (start : State) where
         more =
             sym (ap (λ (n : ℕ). n * r .point) (passed-add dmiss (start .clock) (s .clock) time (i .late) l)
             ∙ add-mul (multiplesPassed dmiss (start .clock) (s .clock)) multiples (r .point))
+
+  -- ---- what is answered, by what came before it: 4 exactly if the packet is fresh, and 6 only after enough fresh contacts of its address
+  abbrev Enough : List ℕ → List Event → Type 0
+  Enough bytes h =
+      r .threshold ≤ freshContacts rules site held (cellAddress (oursOf site bytes)) h + up (countIn start (cellAddress (oursOf site bytes)))
+
+  abbrev Rightly : List Event → Event → Type 0
+  Rightly h (judgedAt time bytes answered) =
+      (isFresh rules site held time (oursOf site bytes) (verdictTold answered) h ≡ tells 4 (verdictTold answered))
+      × (tells 6 (verdictTold answered) ≡ true → Enough bytes h)
+  Rightly h (passedAt time reply) = Unit {0}
+  Rightly h (explainedAt time bytes why) = Unit {0}
+
+  -- all that is asked of a call: what it keeps, the clock that it leaves, and its answer
+  record Stepped (clock : ℕ) (h : List Event) (s : State) (event : Event) : Type 0 where
+    run : Run s (event ∷ h)
+    time : clock ≡ clockAfter (start .clock) h → s .clock ≡ clockAfter (start .clock) (event ∷ h)
+    rightly : Rightly h event
 
   -- ---- a packet of ours is judged, at the state's own time
   module _ (s : State) (h : List Event) (i : Run s h) (bytes : List ℕ) (small : cellAddress (oursOf site bytes) < 2 ^ 32) where
@@ -418,49 +436,20 @@ module _ (x : Setup) (start : State) where
         go address l (yes e) = subst BooksAfter (sym e) own-after
         go address l (no ne) = other-after address l ne
 
-  -- ---- what is told of each call, by what came before it: 4 exactly if the packet is fresh, and 6 only after enough fresh contacts of its address
-  abbrev Enough : List ℕ → List Event → Type 0
-  Enough bytes h =
-      r .threshold ≤ freshContacts rules site held (cellAddress (oursOf site bytes)) h + up (countIn start (cellAddress (oursOf site bytes)))
-
-  abbrev ToldOf : List Event → Event → Type 0
-  ToldOf h (judgedAt time bytes answered) =
-      (isFresh rules site held time (oursOf site bytes) (verdictTold answered) h ≡ tells 4 (verdictTold answered))
-      × (tells 6 (verdictTold answered) ≡ true → Enough bytes h)
-  ToldOf h (passedAt time reply) = Unit {0}
-  ToldOf h (explainedAt time bytes why) = Unit {0}
-
-  -- ---- all that is asked of a call: what it keeps, the clock that it leaves, and what it tells
-  record Stepped (clock : ℕ) (h : List Event) (s : State) (event : Event) : Type 0 where
-    run : Run s (event ∷ h)
-    time : clock ≡ clockAfter (start .clock) h → s .clock ≡ clockAfter (start .clock) (event ∷ h)
-    told : ToldOf h event
-
-  -- a packet of ours
-  module _ (s : State) (h : List Event) (i : Run s h) (bytes : List ℕ) (small : cellAddress (oursOf site bytes) < 2 ^ 32) where
-    stepped-judged : (clock : ℕ) → Stepped clock h (judgedState s h i bytes small) (judgedEvent s h i bytes small)
+    stepped-judged : (clock : ℕ) → Stepped clock h judgedState judgedEvent
     stepped-judged clock =
         record {
-          run = run-judged s h i bytes small;
+          run = run-judged;
           time = λ same. refl;
-          told = (
-            fresh-is s h i bytes small,
-            λ six. holds-blocked (i .books (cellAddress packet) small)
+          rightly = (
+            fresh-is,
+            λ six. holds-blocked (i .books cell small)
                 (reaches (r .threshold) count
                 (ruled (packet .fromPlant) (isBlocked (r .threshold) count) (marksOf byte) (packet .header .transport .kind) .six-blocked six)),
           );
         }
-      where
-        packet : Ours
-        packet = oursOf site bytes
 
-        byte : ℕ
-        byte = getD (s .tables .records) (slotFor rules site packet) 0
-
-        count : ℤ
-        count = countIn s (cellAddress packet)
-
-  -- calls that judge no packet of ours: they add nothing to any slot or account
+  -- ---- calls that judge no packet of ours: they add nothing to any slot or account
   module _ {s : State} {h : List Event} (i : Run s h) (clock time : ℕ) where
     nothing : (t : Bool) → _≡_ {A = ℕ} (cond t 0 0) 0
     nothing true = refl
@@ -486,7 +475,7 @@ module _ (x : Setup) (start : State) where
         record {
           run = record { late = i .late; sound = i .sound; slots = i .slots; books = same-books bytes };
           time = λ e. sym same ∙ e;
-          told = (refl, λ six. true-is-not-false six refl);
+          rightly = (refl, λ six. true-is-not-false six refl);
         }
 
     stepped-not-ours : (bytes : List ℕ) → s .clock ≡ time → Stepped clock h s (judgedAt time bytes answer.NotOurs)
@@ -494,17 +483,17 @@ module _ (x : Setup) (start : State) where
         record {
           run = record { late = i .late; sound = i .sound; slots = i .slots; books = same-books bytes };
           time = λ e. there;
-          told = (refl, λ six. true-is-not-false six refl);
+          rightly = (refl, λ six. true-is-not-false six refl);
         }
 
     stepped-passed : (reply : Reply) → (clock ≡ clockAfter (start .clock) h → s .clock ≡ clockAfter (start .clock) (passedAt time reply ∷ h))
         → Stepped clock h s (passedAt time reply)
     stepped-passed reply same =
-        record { run = record { late = i .late; sound = i .sound; slots = i .slots; books = i .books }; time = same; told = tt }
+        record { run = record { late = i .late; sound = i .sound; slots = i .slots; books = i .books }; time = same; rightly = tt }
 
     stepped-explained : (bytes : List ℕ) (why : Explanation) → clock ≡ s .clock → Stepped clock h s (explainedAt time bytes why)
     stepped-explained bytes why same =
-        record { run = record { late = i .late; sound = i .sound; slots = i .slots; books = i .books }; time = λ e. sym same ∙ e; told = tt }
+        record { run = record { late = i .late; sound = i .sound; slots = i .slots; books = i .books }; time = λ e. sym same ∙ e; rightly = tt }
 
   -- ---- a packet of ours, as the gateway judges it
   -- its outcome by the number of records, the number of lines and whether it comes from the plant
@@ -613,12 +602,12 @@ module _ (x : Setup) (start : State) where
   AllFit [] = Unit {0}
   AllFit (call ∷ calls) = Fits call × AllFit calls
 
-  one-more : (address : ℕ) (h : List Event) (event : Event) → ToldOf h event → freshContacts rules site held address h ≡ fours rules site address h
+  one-more : (address : ℕ) (h : List Event) (event : Event) → Rightly h event → freshContacts rules site held address h ≡ fours rules site address h
       → freshContacts rules site held address (event ∷ h) ≡ fours rules site address (event ∷ h)
-  one-more address h (judgedAt time bytes answered) told so =
-      λ j. so j + cond (eqb (cellAddress (oursOf site bytes)) address && told .0 j) (r .weight (headerOf bytes)) 0
-  one-more address h (passedAt time reply) told so = so
-  one-more address h (explainedAt time bytes why) told so = so
+  one-more address h (judgedAt time bytes answered) four so =
+      λ j. so j + cond (eqb (cellAddress (oursOf site bytes)) address && four .0 j) (r .weight (headerOf bytes)) 0
+  one-more address h (passedAt time reply) four so = so
+  one-more address h (explainedAt time bytes why) four so = so
 
   module _ (good : Good) where
     pub run : (calls : List Call) → AllFit calls → Run (left rules site start calls) (history rules site start calls)
@@ -637,20 +626,20 @@ module _ (x : Setup) (start : State) where
     clock-is [] fit = refl
     clock-is (call ∷ calls) fit = last call calls (fit .0) (fit .1) .time (clock-is calls (fit .1))
 
-    -- what was told of each call, by what came before it
-    told-at : (calls : List Call) → AllFit calls → (newer older : List Event) (event : Event)
-        → history rules site start calls ≡ newer ++ (event ∷ older) → ToldOf older event
+    -- what was answered to each call, by what came before it
+    rightly-at : (calls : List Call) → AllFit calls → (newer older : List Event) (event : Event)
+        → history rules site start calls ≡ newer ++ (event ∷ older) → Rightly older event
     unfolding left history
-    told-at [] fit [] older event e = absurd (not-nil e)
-    told-at [] fit (y ∷ newer) older event e = absurd (not-nil e)
-    told-at (call ∷ calls) fit [] older event e = subst (λ (x : List Event × Event). ToldOf (x .0) (x .1)) (λ i. (same-tail e i, same-head e i)) (last call calls (fit .0) (fit .1) .told)
-    told-at (call ∷ calls) fit (y ∷ newer) older event e = told-at calls (fit .1) newer older event (same-tail e)
+    rightly-at [] fit [] older event e = absurd (not-nil e)
+    rightly-at [] fit (y ∷ newer) older event e = absurd (not-nil e)
+    rightly-at (call ∷ calls) fit [] older event e = subst (λ (x : List Event × Event). Rightly (x .0) (x .1)) (λ i. (same-tail e i, same-head e i)) (last call calls (fit .0) (fit .1) .rightly)
+    rightly-at (call ∷ calls) fit (y ∷ newer) older event e = rightly-at calls (fit .1) newer older event (same-tail e)
 
     -- verdict 4 is answered exactly to fresh contacts
     pub four-is-fresh : (calls : List Call) → AllFit calls → (newer older : List Event) (time : ℕ) (bytes : List ℕ) (answered : Answer)
         → history rules site start calls ≡ newer ++ (judgedAt time bytes answered ∷ older)
         → isFresh rules site held time (oursOf site bytes) (verdictTold answered) older ≡ tells 4 (verdictTold answered)
-    four-is-fresh calls fit newer older time bytes answered e = told-at calls fit newer older (judgedAt time bytes answered) e .0
+    four-is-fresh calls fit newer older time bytes answered e = rightly-at calls fit newer older (judgedAt time bytes answered) e .0
 
     -- so as many are answered 4 as are fresh
     pub answered : (calls : List Call) → AllFit calls → (address : ℕ)
@@ -658,7 +647,7 @@ module _ (x : Setup) (start : State) where
     unfolding left history
     answered [] fit address = refl
     answered (call ∷ calls) fit address =
-        one-more address (history rules site start calls) (eventOf rules site (left rules site start calls) call) (last call calls (fit .0) (fit .1) .told) (answered calls (fit .1) address)
+        one-more address (history rules site start calls) (eventOf rules site (left rules site start calls) call) (last call calls (fit .0) (fit .1) .rightly) (answered calls (fit .1) address)
 
     -- the bound of demand 3, from any start
     pub bound : (calls : List Call) → AllFit calls → (address : ℕ) → address < 2 ^ 32
@@ -675,4 +664,4 @@ module _ (x : Setup) (start : State) where
     pub not-before : (calls : List Call) → AllFit calls → (newer older : List Event) (time : ℕ) (bytes : List ℕ) (answered : Answer)
         → history rules site start calls ≡ newer ++ (judgedAt time bytes answered ∷ older) → verdictTold answered ≡ some 6 → Enough bytes older
     not-before calls fit newer older time bytes answered e six =
-        told-at calls fit newer older (judgedAt time bytes answered) e .1 (ap (tells 6) six)
+        rightly-at calls fit newer older (judgedAt time bytes answered) e .1 (ap (tells 6) six)
