@@ -119,6 +119,13 @@ module _ (rules : Settings → Rules) (site : Site) where
   forwardedOn slot (passedAt time reply ∷ before) = forwardedOn slot before
   forwardedOn slot (explainedAt time bytes why ∷ before) = forwardedOn slot before
 
+  -- "A fresh contact is a forwarded cell packet whose slot was not live.": in these words, of a packet, when it came, the verdict that was
+  -- told of it, and what came before it
+  pub record Fresh (time : ℕ) (packet : Ours) (verdict : Option ℕ) (before : List Event) : Type 0 where
+    pub forwarded : forwards verdict ≡ true
+    pub cell-packet : packet .fromPlant ≡ false
+    pub slot-not-live : Live (site .settings .dconn) time (forwardedOn (slotFor packet) before) → ⊥
+
   -- D: "the multiples of Dmiss passed since the cold start"
   abbrev pub decays : ℕ → List Event → ℕ
   decays start history = multiplesPassed (site .settings .dmiss) start (clockAfter start history)
@@ -137,7 +144,7 @@ module _ (rules : Settings → Rules) (site : Site) where
     liveFor packet now before =
         isLive (held (slotFor packet)) (site .settings .dconn) now (forwardedOn (slotFor packet) before)
 
-    -- "A fresh contact is a forwarded cell packet whose slot was not live."
+    -- whether a contact is fresh, as a test that computes (`fresh-is`, history/proofs/Live, says that after a cold start it is those words)
     abbrev pub isFresh : ℕ → Ours → Option ℕ → List Event → Bool
     isFresh time packet verdict before = forwards verdict && (not (packet .fromPlant) && not (liveFor packet time before))
 

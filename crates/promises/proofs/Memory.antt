@@ -16,7 +16,7 @@ use Rattle.rulings.specs.Rules.{document01}
 use Rattle.gateway.specs.Calls.{State}
 use Rattle.history.specs.Runs.{Call, Event, judgedAt, left, history}
 use Rattle.history.specs.Fresh.{oursOf, tells, Forwarded, isLive, nothingHeld, forwardedOn, isFresh, freshContacts}
-use Rattle.history.proofs.Live.{live-is}
+use Rattle.history.proofs.Live.{live-is, fresh-is}
 use Rattle.books.proofs.Slots.{since, Kept}
 use Rattle.books.proofs.Runs.{run, fours, four-is-fresh, answered}
 use Rattle.promises.specs.Demand3.{Gateway, StartsCold, OfBytes, site, first, happened, F}
@@ -89,7 +89,8 @@ module _ (g : Gateway) (cold : StartsCold g) (calls : List Call) (bytes : OfByte
             kept slot l .old c
             ∙ ap (since (g .settings .dconn) (g .start) (getD (cold-state g cold .tables .records) slot 0) (clockAt (cold-state g cold))) e);
         four-exactly-if-fresh = λ after before time packet answered e. (
-          λ q. four after before time packet answered e ∙ ap (tells 4) q,
-          λ w. told-is 4 (verdictTold answered) (sym (four after before time packet answered e) ∙ w),
+          λ q. fresh-is document01 (site g) time (oursOf (site g) packet) (verdictTold answered) before .0 (four after before time packet answered e ∙ ap (tells 4) q),
+          λ w. told-is 4 (verdictTold answered)
+              (sym (four after before time packet answered e) ∙ fresh-is document01 (site g) time (oursOf (site g) packet) (verdictTold answered) before .1 w),
         );
       }

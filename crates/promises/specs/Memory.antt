@@ -2,7 +2,7 @@
 -- boundaries since the last packet forwarded there. So no remembered connection outlasts Dconn boundaries. And in every run a packet is
 -- answered 4 exactly if it is a fresh contact.
 -- Assumes nothing.
-use mathlib.Core.Bool.{true, false}
+use mathlib.Core.Bool.{false}
 use mathlib.Core.List.{List, _∷_, _++_}
 use mathlib.Core.Logic.{_↔_}
 use mathlib.Core.Option.{some}
@@ -16,7 +16,7 @@ use Rattle.rulings.specs.Answers.{verdictTold}
 use Rattle.rulings.specs.Rules.{document01}
 use Rattle.gateway.specs.Calls.{State}
 use Rattle.history.specs.Runs.{Call, Event, judgedAt, left}
-use Rattle.history.specs.Fresh.{oursOf, Forwarded, Live, nothingHeld, forwardedOn, isFresh}
+use Rattle.history.specs.Fresh.{oursOf, Forwarded, Live, forwardedOn, Fresh}
 use Rattle.promises.specs.Demand3.{Gateway, site, first, happened}
 
 module _ (g : Gateway) where
@@ -39,4 +39,4 @@ module _ (g : Gateway) where
     -- "4 forwarded, fresh contact": wherever a packet was answered, by what came before
     pub four-exactly-if-fresh : (after before : List Event) (time : ℕ) (bytes : List ℕ) (answered : Answer)
         → happened g calls ≡ after ++ (judgedAt time bytes answered ∷ before)
-        → (verdictTold answered ≡ some 4) ↔ (isFresh document01 (site g) nothingHeld time (oursOf (site g) bytes) (verdictTold answered) before ≡ true)
+        → (verdictTold answered ≡ some 4) ↔ Fresh document01 (site g) time (oursOf (site g) bytes) (verdictTold answered) before
