@@ -3,7 +3,7 @@
 -- Assumes nothing.
 use mathlib.Core.Bool.{Bool, true, _&&_}
 use mathlib.Core.List.{List, [], _∷_, map}
-use mathlib.Core.Path.{_≡_, refl, sym, ap, _∙_}
+use mathlib.Core.Path.{_≡_, refl, ap, _∙_}
 use Prim.Native.Nat.{ℕ, _^_, _<_}
 use native.Mathlib.Omega.{arith}
 use lib.Dec.{ltb}
@@ -39,7 +39,7 @@ use Rattle.cold.specs.Cold.{coldTables}
 use Rattle.refusals.specs.Refusals.{startRefusal, earlyRefusal}
 use Rattle.gateway.specs.Packets.{ours, byDirection}
 use Rattle.gateway.specs.Calls.{State, stateOf, After, started, judged}
-use Rattle.history.specs.Runs.{Call, packetAt, Event, judgedAt, stateAfter, eventOf, left, history}
+use Rattle.history.specs.Runs.{Call, packetAt, whyAt, Event, judgedAt, stateAfter, eventOf, left, history}
 use Rattle.books.proofs.Apart.{same-head, same-tail}
 use Rattle.books.proofs.Runs.{fours}
 use Rattle.promises.specs.Demand3.{EachBelow, StartsCold, OfBytes, site, first, happened, F, D, H, R, most, least}
@@ -239,11 +239,12 @@ twoRows =
 pub blocked-after-T : (before : List Event)
     × (happened gateway exactly ≡ judgedAt 100 (syn 1 11211) (Judged Blocked (pos 2) None) ∷ before)
     × (F gateway machine before ≡ least gateway)
-unfolding history every firstBelow foremost holds rankAt rankOf bestNumber bestIn decided headerOf
+unfolding left stateAfter eventOf history every firstBelow foremost holds rankAt rankOf bestNumber bestIn decided headerOf
 blocked-after-T =
-    (happened gateway (callsOf twoRows), happened-exactly, fresh-is twoRows (same-tail exactly-made) refl)
+    (happened gateway asked, happened-exactly, fresh-is twoRows (same-tail exactly-made) refl)
   where
-    happened-exactly : happened gateway exactly ≡ judgedAt 100 (syn 1 11211) (Judged Blocked (pos 2) None) ∷ happened gateway (callsOf twoRows)
-    happened-exactly =
-        happened-is exactlyRows exactly-made
-        ∙ ap (λ (h : List Event). judgedAt 100 (syn 1 11211) (Judged Blocked (pos 2) None) ∷ h) (sym (happened-is twoRows (same-tail exactly-made)))
+    asked : List Call
+    asked = whyAt 100 (syn 1 11211) ∷ callsOf twoRows
+
+    happened-exactly : happened gateway exactly ≡ judgedAt 100 (syn 1 11211) (Judged Blocked (pos 2) None) ∷ happened gateway asked
+    happened-exactly = λ i. same-head (happened-is exactlyRows exactly-made) i ∷ happened gateway asked

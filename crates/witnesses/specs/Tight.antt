@@ -7,7 +7,7 @@ use lib.IntN.{pos}
 use lib.ListN.{replicate}
 use Rattle.laws.specs.Signed.{minus}
 use Rattle.gateway.specs.Calls.{stateOf}
-use Rattle.history.specs.Runs.{Call, packetAt}
+use Rattle.history.specs.Runs.{Call, packetAt, whyAt}
 use Rattle.promises.specs.Demand3.{Gateway}
 
 -- cell 10.0.0.0/8, plant 192.168.0.0/16, and a cold start at second 100
@@ -60,5 +60,6 @@ allowed =
 abbrev pub exactly : List Call
 exactly =
     packetAt 100 (syn 1 11211) ∷  -- 6
+    whyAt 100 (syn 1 11211) ∷  -- the question why, asked first: it changes nothing
     packetAt 100 (syn 1 4840) ∷  -- 4
     packetAt 100 (syn 1 6379) ∷ []  -- 4
