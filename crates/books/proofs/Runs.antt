@@ -1,5 +1,5 @@
 -- Any run over lawful rules, from any good start: what each call keeps true of the state and of the history that led to it. From it the
--- bound on fresh contacts and the least before a block.
+-- bound on fresh contacts and the least before a block, and that 4 is answered exactly to fresh contacts.
 -- Assumes nothing.
 use mathlib.Core.Bool.{Bool, true, false, not, _&&_, cond, and-false, and-true}
 use mathlib.Core.List.{List, [], _∷_, _++_, map}
@@ -15,6 +15,7 @@ use lib.IntN.{ℤ, pos}
 use lib.ListN.{length, getD, set, length-set, length-map, List·getD-map}
 use lib.Seq.{getD-set-same, getD-set-other}
 use borrow.Author.Tests.{eq-eqb, ne-eqb}
+use Rattle.laws.proofs.Tests.{true-is-not-false}
 use Rattle.laws.proofs.Signed.{up, dn, leZ-true, leZ-false, one-part}
 use Rattle.permute.proofs.Inverse.{Keys}
 use Rattle.settings.specs.declared.Settings.{Settings}
@@ -35,13 +36,12 @@ use Rattle.tables.specs.Tables.{Tables}
 use Rattle.tables.specs.Clock.{multiplesPassed, timePassed}
 use Rattle.tables.proofs.Jumps.{passed-none, passed-add}
 use Rattle.verdicts.specs.declared.Verdict.{Verdict}
-use Rattle.verdicts.specs.declared.Verdict.the-variants.{Blocked}
-use Rattle.verdicts.specs.Verdicts.{isForwarded, recordAfter}
+use Rattle.reasons.specs.declared.Explanation.{Explanation}
+use Rattle.verdicts.specs.Verdicts.{recordAfter}
 use Rattle.rulings.specs.declared.Ruling.{Ruling}
 use Rattle.rulings.specs.declared.answers.Answer.{Answer}
 use Rattle.rulings.specs.declared.answers.Answer.the-variants as answer
-use Rattle.rulings.specs.declared.answers.Replacement.{Replacement}
-use Rattle.rulings.specs.Answers.{refusalTold, addressTold}
+use Rattle.rulings.specs.Answers.{verdictTold, addressTold}
 use Rattle.rulings.specs.Rules.{Rules, cellOf}
 use Rattle.rulings.specs.Rulings.{countedBy, verdictBy, newCount, rulingOf}
 use Rattle.gateway.specs.Packets.{Outcome, outcomeOf, replacementOf, entered, ours, directionIn, byDirection}
@@ -49,12 +49,11 @@ use Rattle.refusals.proofs.Tests.{time-in-order, packet-in-order}
 use Rattle.gateway.specs.declared.Reply.{Reply}
 use Rattle.gateway.specs.declared.Reply.the-variants.{Refused, Done}
 use Rattle.gateway.specs.Calls.{State, After, numberOr, unlessRefused, timeRefusalAt, onward, passed, packetRefusal, accepted, judged}
-use Rattle.history.specs.Runs.{Site, Call, packetAt, timeAlone, Event, judgedAt, passedAt, stateAfter, eventOf, left, history}
-use Rattle.history.specs.Answered.{isFour, fours}
-use Rattle.history.specs.Fresh.{Ours, comesFromPlant, oursOf, cellAddress, creditOf, names, replacements, unlessRefusedBy, clockAfter, slotFor, forwardedOn, decays, credits, isFresh, freshContacts}
-use Rattle.books.proofs.Apart.{twice-not, not-some, same-head, same-tail, same-verdict, not-judged, not-ours, same-bytes, same-answer, not-passed, not-nil}
+use Rattle.history.specs.Runs.{Site, Call, packetAt, timeAlone, whyAt, Event, judgedAt, passedAt, explainedAt, stateAfter, eventOf, left, history}
+use Rattle.history.specs.Fresh.{Ours, comesFromPlant, oursOf, cellAddress, tells, forwards, creditOf, replacements, clockAfter, slotFor, forwardedOn, decays, credits, isFresh, freshContacts}
+use Rattle.books.proofs.Apart.{twice-not, not-some, same-head, same-tail, not-nil}
 use Rattle.books.proofs.Account.{Holds, at-start, recast, on-named, on-replaced, on-decay, holds-bound, holds-blocked}
-use Rattle.books.proofs.Slots.{isSix, Ruled, ruled, forwarded-record, dropped-record, heldBy, Kept, kept-start, kept-onward, kept-forwarded}
+use Rattle.books.proofs.Slots.{toldOf, isFour, Ruled, ruled, forwarded-record, dropped-record, heldBy, Kept, kept-start, kept-onward, kept-forwarded}
 use Rattle.books.proofs.Lawful.{Lawful}
 use Rattle.books.proofs.Writes.{placed, countAt, own-count, isNamed, other-count}
 use Rattle.books.proofs.Own.{NoLower, own-account}
@@ -70,6 +69,16 @@ under B c h e = omega (arith, leZ-false (pos B) c e, one-part c)
 zero-ages : (d m : ℕ) → agedBy d m 0 ≡ 0
 zero-ages d zero = aged-none d 0
 zero-ages d (suc m) = aged-cold d (suc m) 0 (low-is-cold 0 (omega arith)) (omega arith)
+
+-- the packets of an address that were answered 4, each by its weight
+module _ (rules : Settings → Rules) (site : Site) where
+  abbrev pub fours : ℕ → List Event → ℕ
+  fours address [] = 0
+  fours address (judgedAt time bytes answered ∷ before) =
+      fours address before
+      + cond (eqb (cellAddress (oursOf site bytes)) address && tells 4 (verdictTold answered)) (rules (site .settings) .weight (headerOf bytes)) 0
+  fours address (passedAt time reply ∷ before) = fours address before
+  fours address (explainedAt time bytes why ∷ before) = fours address before
 
 -- what stays in a run: its rules, settings, side lists and sizes, with what is asked of them. W is the heaviest contact and U the highest
 -- count that a forwarded contact makes; there are 2 ^ a lines.
@@ -200,6 +209,24 @@ module _ (x : Setup) (start : State) where
             sym (ap (λ (n : ℕ). n * r .point) (passed-add dmiss (start .clock) (s .clock) time (i .late) l)
             ∙ add-mul (multiplesPassed dmiss (start .clock) (s .clock)) multiples (r .point))
 
+  -- ---- what is answered, by what came before it: 4 exactly if the packet is fresh, and 6 only after enough fresh contacts of its address
+  abbrev Enough : List ℕ → List Event → Type 0
+  Enough bytes h =
+      r .threshold ≤ freshContacts rules site held (cellAddress (oursOf site bytes)) h + up (countIn start (cellAddress (oursOf site bytes)))
+
+  abbrev Rightly : List Event → Event → Type 0
+  Rightly h (judgedAt time bytes answered) =
+      (isFresh rules site held time (oursOf site bytes) (verdictTold answered) h ≡ tells 4 (verdictTold answered))
+      × (tells 6 (verdictTold answered) ≡ true → Enough bytes h)
+  Rightly h (passedAt time reply) = Unit {0}
+  Rightly h (explainedAt time bytes why) = Unit {0}
+
+  -- all that is asked of a call: what it keeps, the clock that it leaves, and its answer
+  record Stepped (clock : ℕ) (h : List Event) (s : State) (event : Event) : Type 0 where
+    run : Run s (event ∷ h)
+    time : clock ≡ clockAfter (start .clock) h → s .clock ≡ clockAfter (start .clock) (event ∷ h)
+    rightly : Rightly h event
+
   -- ---- a packet of ours is judged, at the state's own time
   module _ (s : State) (h : List Event) (i : Run s h) (bytes : List ℕ) (small : cellAddress (oursOf site bytes) < 2 ^ 32) where
     abbrev packet : Ours
@@ -219,6 +246,9 @@ module _ (x : Setup) (start : State) where
 
     abbrev verdict : Verdict
     verdict = verdictBy r (packet .header) (packet .fromPlant) byte count
+
+    abbrev told : Option ℕ
+    told = toldOf verdict
 
     abbrev new : Option ℤ
     new = newCount r (packet .header) (packet .fromPlant) byte count
@@ -258,7 +288,7 @@ module _ (x : Setup) (start : State) where
         Kept dconn (start .clock) (getD (start .tables .records) j 0) b (s .clock)
         (cond forwarded (record { time = s .clock; packet = packet } ∷ forwardedOn rules site j h) (forwardedOn rules site j h))
 
-    own-slot : (forwarded : Bool) → isForwarded verdict ≡ forwarded → SlotAt slot byteAfter forwarded
+    own-slot : (forwarded : Bool) → forwards told ≡ forwarded → SlotAt slot byteAfter forwarded
     own-slot true e =
         kept-forwarded dconn (start .clock) (getD (start .tables .records) slot 0) packet here
         (forwarded-record (packet .fromPlant) (isBlocked (r .threshold) count) (packet .header .transport .kind) byte e)
@@ -266,30 +296,30 @@ module _ (x : Setup) (start : State) where
         subst (λ (b : ℕ). SlotAt slot b false)
         (sym (dropped-record (packet .fromPlant) (isBlocked (r .threshold) count) (packet .header .transport .kind) byte e)) here
 
-    each-slot : (j : ℕ) → j < site .records → SlotAt j (getD (set (s .tables .records) slot byteAfter) j 0) (isForwarded verdict && eqb slot j)
+    each-slot : (j : ℕ) → j < site .records → SlotAt j (getD (set (s .tables .records) slot byteAfter) j 0) (forwards told && eqb slot j)
     each-slot j l = go (ℕ-discrete slot j)
       where
         alone : (t : Bool) → t ≡ (t && eqb slot slot)
         alone t = sym (ap (λ (b : Bool). t && b) (eq-eqb slot slot refl) ∙ and-true t)
 
-        go : Dec (slot ≡ j) → SlotAt j (getD (set (s .tables .records) slot byteAfter) j 0) (isForwarded verdict && eqb slot j)
+        go : Dec (slot ≡ j) → SlotAt j (getD (set (s .tables .records) slot byteAfter) j 0) (forwards told && eqb slot j)
         go (yes e) =
-            subst (λ (x : ℕ). SlotAt x (getD (set (s .tables .records) slot byteAfter) x 0) (isForwarded verdict && eqb slot x)) e
-            (subst (λ (b : ℕ). SlotAt slot b (isForwarded verdict && eqb slot slot))
+            subst (λ (x : ℕ). SlotAt x (getD (set (s .tables .records) slot byteAfter) x 0) (forwards told && eqb slot x)) e
+            (subst (λ (b : ℕ). SlotAt slot b (forwards told && eqb slot slot))
             (sym (getD-set-same (s .tables .records) slot byteAfter 0 (omega (arith, slot-lt, i .sound .records-long))))
-            (subst (λ (t : Bool). SlotAt slot byteAfter t) (alone (isForwarded verdict)) (own-slot (isForwarded verdict) refl)))
+            (subst (λ (t : Bool). SlotAt slot byteAfter t) (alone (forwards told)) (own-slot (forwards told) refl)))
         go (no ne) =
-            subst (λ (b : ℕ). SlotAt j b (isForwarded verdict && eqb slot j))
+            subst (λ (b : ℕ). SlotAt j b (forwards told && eqb slot j))
             (sym (getD-set-other (s .tables .records) slot j byteAfter 0 (λ e. ne (sym e))))
             (subst (λ (t : Bool). SlotAt j (getD (s .tables .records) j 0) t)
-            (sym (ap (λ (t : Bool). isForwarded verdict && t) (ne-eqb slot j ne) ∙ and-false (isForwarded verdict)))
+            (sym (ap (λ (t : Bool). forwards told && t) (ne-eqb slot j ne) ∙ and-false (forwards told)))
             (i .slots j l))
 
     -- ---- fresh by the history is verdict 4
-    fresh-is : isFresh rules site held (s .clock) packet verdict h ≡ isFour verdict
+    fresh-is : isFresh rules site held (s .clock) packet told h ≡ isFour verdict
     fresh-is =
-        ap (λ (t : Bool). isForwarded verdict && (not (packet .fromPlant) && not t)) (sym (here .mark))
-        ∙ ap (λ (t : Bool). isForwarded verdict && (not (packet .fromPlant) && t)) (twice-not (isCold byte))
+        ap (λ (t : Bool). forwards told && (not (packet .fromPlant) && not t)) (sym (here .mark))
+        ∙ ap (λ (t : Bool). forwards told && (not (packet .fromPlant) && t)) (twice-not (isCold byte))
         ∙ ruled (packet .fromPlant) (isBlocked (r .threshold) count) (marksOf byte) (packet .header .transport .kind) .four
 
     -- ---- its cell address's books, and the others'
@@ -297,11 +327,11 @@ module _ (x : Setup) (start : State) where
     BooksAfter address =
         Holds (r .threshold) U (countIn start address) (countIn judgedState address)
         (freshContacts rules site held address h
-        + cond (eqb cell address && isFresh rules site held (s .clock) packet verdict h) (r .weight (packet .header)) 0)
+        + cond (eqb cell address && isFresh rules site held (s .clock) packet told h) (r .weight (packet .header)) 0)
         (multiplesPassed dmiss (start .clock) (s .clock) * r .point)
-        ((credits rules site address h + cond (eqb cell address) (creditOf verdict) 0) * r .point)
+        ((credits rules site address h + cond (eqb cell address) (creditOf told) 0) * r .point)
         (replacements address h
-        + cond (names address (addressTold (replacementOf (site .settings .keys) (2 ^ a) (placed (x .k) a (x .few) cell .line) (wrote new .replaced)))) 1 0)
+        + cond (tells address (addressTold (replacementOf (site .settings .keys) (2 ^ a) (placed (x .k) a (x .few) cell .line) (wrote new .replaced)))) 1 0)
 
     abbrev attempted : Option ℤ
     attempted = cond (isUnmarked (marksOf byte)) (r .attempt (packet .header) count) none
@@ -316,7 +346,7 @@ module _ (x : Setup) (start : State) where
     own-books : Holds (r .threshold) U (countIn start cell) (countedBy count new .count)
         (freshContacts rules site held cell h + cond (isFour verdict) (r .weight (packet .header)) 0)
         (multiplesPassed dmiss (start .clock) (s .clock) * r .point)
-        ((credits rules site cell h + creditOf verdict) * r .point)
+        ((credits rules site cell h + creditOf told) * r .point)
         (replacements cell h)
     own-books =
         own-account (r .floor) (r .point) (r .weight (packet .header)) (x .ok .room) (x .ok .wide) (x .ok .in-sixteen-bits) (x .ok .weight-le (packet .header))
@@ -337,9 +367,9 @@ module _ (x : Setup) (start : State) where
         recast (on-named own-books _)
         (own-written new (own-books .full))
         (ap (λ (t : Bool). freshContacts rules site held cell h + cond t (r .weight (packet .header)) 0)
-        (sym (ap (λ (t : Bool). t && isFresh rules site held (s .clock) packet verdict h) (eq-eqb cell cell refl) ∙ fresh-is)))
+        (sym (ap (λ (t : Bool). t && isFresh rules site held (s .clock) packet told h) (eq-eqb cell cell refl) ∙ fresh-is)))
         refl
-        (ap (λ (t : Bool). (credits rules site cell h + cond t (creditOf verdict) 0) * r .point) (sym (eq-eqb cell cell refl)))
+        (ap (λ (t : Bool). (credits rules site cell h + cond t (creditOf told) 0) * r .point) (sym (eq-eqb cell cell refl)))
         refl
 
     -- another address: nothing of its own is counted, and its count stays unless it is named
@@ -349,7 +379,7 @@ module _ (x : Setup) (start : State) where
           Holds (r .threshold) U (countIn start other) (countAt (x .k) a (x .few) (wrote n .tags) (wrote n .counts) other)
           (freshContacts rules site held other h) (multiplesPassed dmiss (start .clock) (s .clock) * r .point) (credits rules site other h * r .point)
           (replacements other h
-          + cond (names other (addressTold (replacementOf (site .settings .keys) (2 ^ a) (placed (x .k) a (x .few) cell .line) (wrote n .replaced)))) 1 0)
+          + cond (tells other (addressTold (replacementOf (site .settings .keys) (2 ^ a) (placed (x .k) a (x .few) cell .line) (wrote n .replaced)))) 1 0)
 
       other-written : (n : Option ℤ) → OtherAfter n
       other-written none = on-named (i .books other other-small) 0
@@ -370,10 +400,10 @@ module _ (x : Setup) (start : State) where
       other-after =
           let ne : eqb cell other ≡ false = ne-eqb cell other (λ e. apart (sym e)) in
           recast (other-written new) refl
-          (sym (ap (λ (t : Bool). freshContacts rules site held other h + cond (t && isFresh rules site held (s .clock) packet verdict h) (r .weight (packet .header)) 0) ne
+          (sym (ap (λ (t : Bool). freshContacts rules site held other h + cond (t && isFresh rules site held (s .clock) packet told h) (r .weight (packet .header)) 0) ne
           ∙ add-zero (freshContacts rules site held other h)))
           refl
-          (sym (ap (λ (t : Bool). (credits rules site other h + cond t (creditOf verdict) 0) * r .point) ne
+          (sym (ap (λ (t : Bool). (credits rules site other h + cond t (creditOf told) 0) * r .point) ne
           ∙ ap (λ (n : ℕ). n * r .point) (add-zero (credits rules site other h))))
           refl
 
@@ -406,20 +436,64 @@ module _ (x : Setup) (start : State) where
         go address l (yes e) = subst BooksAfter (sym e) own-after
         go address l (no ne) = other-after address l ne
 
+    stepped-judged : (clock : ℕ) → Stepped clock h judgedState judgedEvent
+    stepped-judged clock =
+        record {
+          run = run-judged;
+          time = λ same. refl;
+          rightly = (
+            fresh-is,
+            λ six. holds-blocked (i .books cell small)
+                (reaches (r .threshold) count
+                (ruled (packet .fromPlant) (isBlocked (r .threshold) count) (marksOf byte) (packet .header .transport .kind) .six-blocked six)),
+          );
+        }
+
   -- ---- calls that judge no packet of ours: they add nothing to any slot or account
-  module _ {s : State} {h : List Event} (i : Run s h) (time : ℕ) where
-    same-books : (address : ℕ) → address < 2 ^ 32 → Holds (r .threshold) U (countIn start address) (countIn s address) (freshContacts rules site held address h)
-        (multiplesPassed dmiss (start .clock) (s .clock) * r .point) (credits rules site address h * r .point) (replacements address h + 0)
-    same-books address l = recast (i .books address l) refl refl refl refl (sym (add-zero (replacements address h)))
+  module _ {s : State} {h : List Event} (i : Run s h) (clock time : ℕ) where
+    nothing : (t : Bool) → _≡_ {A = ℕ} (cond t 0 0) 0
+    nothing true = refl
+    nothing false = refl
 
-    run-refused : (bytes : List ℕ) (number : ℕ) → Run s (judgedAt time bytes (answer.Refused number) ∷ h)
-    run-refused bytes number = record { late = i .late; sound = i .sound; slots = i .slots; books = same-books }
+    same-books : (bytes : List ℕ) (address : ℕ) → address < 2 ^ 32
+        → Holds (r .threshold) U (countIn start address) (countIn s address)
+        (freshContacts rules site held address h + cond (eqb (cellAddress (oursOf site bytes)) address && false) (r .weight (headerOf bytes)) 0)
+        (multiplesPassed dmiss (start .clock) (s .clock) * r .point)
+        ((credits rules site address h + cond (eqb (cellAddress (oursOf site bytes)) address) 0 0) * r .point)
+        (replacements address h + 0)
+    same-books bytes address l =
+        recast (i .books address l) refl
+        (sym (ap (λ (t : Bool). freshContacts rules site held address h + cond t (r .weight (headerOf bytes)) 0) (and-false (eqb (cellAddress (oursOf site bytes)) address))
+        ∙ add-zero (freshContacts rules site held address h)))
+        refl
+        (sym (ap (λ (n : ℕ). (credits rules site address h + n) * r .point) (nothing (eqb (cellAddress (oursOf site bytes)) address))
+        ∙ ap (λ (n : ℕ). n * r .point) (add-zero (credits rules site address h))))
+        (sym (add-zero (replacements address h)))
 
-    run-not-ours : (bytes : List ℕ) → Run s (judgedAt time bytes answer.NotOurs ∷ h)
-    run-not-ours bytes = record { late = i .late; sound = i .sound; slots = i .slots; books = same-books }
+    stepped-refused : (bytes : List ℕ) (number : ℕ) → clock ≡ s .clock → Stepped clock h s (judgedAt time bytes (answer.Refused (suc number)))
+    stepped-refused bytes number same =
+        record {
+          run = record { late = i .late; sound = i .sound; slots = i .slots; books = same-books bytes };
+          time = λ e. sym same ∙ e;
+          rightly = (refl, λ six. true-is-not-false six refl);
+        }
 
-    run-passed : (reply : Reply) → Run s (passedAt time reply ∷ h)
-    run-passed reply = record { late = i .late; sound = i .sound; slots = i .slots; books = i .books }
+    stepped-not-ours : (bytes : List ℕ) → s .clock ≡ time → Stepped clock h s (judgedAt time bytes answer.NotOurs)
+    stepped-not-ours bytes there =
+        record {
+          run = record { late = i .late; sound = i .sound; slots = i .slots; books = same-books bytes };
+          time = λ e. there;
+          rightly = (refl, λ six. true-is-not-false six refl);
+        }
+
+    stepped-passed : (reply : Reply) → (clock ≡ clockAfter (start .clock) h → s .clock ≡ clockAfter (start .clock) (passedAt time reply ∷ h))
+        → Stepped clock h s (passedAt time reply)
+    stepped-passed reply same =
+        record { run = record { late = i .late; sound = i .sound; slots = i .slots; books = i .books }; time = same; rightly = tt }
+
+    stepped-explained : (bytes : List ℕ) (why : Explanation) → clock ≡ s .clock → Stepped clock h s (explainedAt time bytes why)
+    stepped-explained bytes why same =
+        record { run = record { late = i .late; sound = i .sound; slots = i .slots; books = i .books }; time = λ e. sym same ∙ e; rightly = tt }
 
   -- ---- a packet of ours, as the gateway judges it
   -- its outcome by the number of records, the number of lines and whether it comes from the plant
@@ -454,19 +528,20 @@ module _ (x : Setup) (start : State) where
         let lines : length (s .tables .tags) / 4 ≡ 2 ^ a = omega (arith, i .sound .tags-long) in
         λ j. outcomeBy bytes (s .tables) (sym (i .sound .records-long) j) (sym lines j) (e j)
 
-    run-ours : (fromPlant : Bool) → oursOf site bytes .fromPlant ≡ fromPlant
-        → Run (stateBy (ours rules (site .settings) (headerOf bytes) fromPlant (s .tables)) (s .clock))
-        (judgedAt (s .clock) bytes (ours rules (site .settings) (headerOf bytes) fromPlant (s .tables) .answer) ∷ h)
+    stepped-ours : (clock : ℕ) (fromPlant : Bool) → oursOf site bytes .fromPlant ≡ fromPlant
+        → Stepped clock h (stateBy (ours rules (site .settings) (headerOf bytes) fromPlant (s .tables)) (s .clock))
+        (judgedAt (s .clock) bytes (ours rules (site .settings) (headerOf bytes) fromPlant (s .tables) .answer))
     unfolding rulingOf
-    run-ours fromPlant e =
-        subst (λ (outcome : Outcome). Run (stateBy outcome (s .clock)) (judgedAt (s .clock) bytes (outcome .answer) ∷ h)) (ours-is fromPlant e)
-        (run-judged s h i bytes small)
+    stepped-ours clock fromPlant e =
+        subst (λ (outcome : Outcome). Stepped clock h (stateBy outcome (s .clock)) (judgedAt (s .clock) bytes (outcome .answer))) (ours-is fromPlant e)
+        (stepped-judged s h i bytes small clock)
 
   -- ---- one call
   -- a packet whose bytes are bytes has an address of 32 bits
   abbrev pub Fits : Call → Type 0
   Fits (packetAt time bytes) = cellAddress (oursOf site bytes) < 2 ^ 32
   Fits (timeAlone time) = Unit {0}
+  Fits (whyAt time bytes) = Unit {0}
 
   module _ (s : State) (h : List Event) (i : Run s h) where
     -- the clock is then the time
@@ -474,17 +549,20 @@ module _ (x : Setup) (start : State) where
     unfolding timePassed
     clock-at time l = omega arith
 
-    by-direction : (time : ℕ) (bytes : List ℕ) → Fits (packetAt time bytes) → s .clock ≤ time → (direction : Direction) → directionIn (site .cell) (site .plant) (headerOf bytes) ≡ direction
-        → Run (accepted rules (site .settings) (headerOf bytes) direction time s .state)
-        (judgedAt time bytes (accepted rules (site .settings) (headerOf bytes) direction time s .answer) ∷ h)
+    abbrev by : ℕ → List ℕ → Direction → After Answer
+    by time bytes direction = accepted rules (site .settings) (headerOf bytes) direction time s
+
+    by-direction : (time : ℕ) (bytes : List ℕ) → Fits (packetAt time bytes) → s .clock ≤ time
+        → (direction : Direction) → directionIn (site .cell) (site .plant) (headerOf bytes) ≡ direction
+        → Stepped (s .clock) h (by time bytes direction .state) (judgedAt time bytes (by time bytes direction .answer))
     unfolding byDirection
     by-direction time bytes small l FromCell e =
-        subst (λ (t : ℕ). Run (accepted rules (site .settings) (headerOf bytes) FromCell time s .state) (judgedAt t bytes (accepted rules (site .settings) (headerOf bytes) FromCell time s .answer) ∷ h))
-        (clock-at time l) (run-ours (timed time s) h (run-onward time s h l i) bytes small false (ap comesFromPlant e))
+        subst (λ (t : ℕ). Stepped (s .clock) h (by time bytes FromCell .state) (judgedAt t bytes (by time bytes FromCell .answer)))
+        (clock-at time l) (stepped-ours (timed time s) h (run-onward time s h l i) bytes small (s .clock) false (ap comesFromPlant e))
     by-direction time bytes small l FromPlant e =
-        subst (λ (t : ℕ). Run (accepted rules (site .settings) (headerOf bytes) FromPlant time s .state) (judgedAt t bytes (accepted rules (site .settings) (headerOf bytes) FromPlant time s .answer) ∷ h))
-        (clock-at time l) (run-ours (timed time s) h (run-onward time s h l i) bytes small true (ap comesFromPlant e))
-    by-direction time bytes small l NotOurs e = run-not-ours (run-onward time s h l i) time bytes
+        subst (λ (t : ℕ). Stepped (s .clock) h (by time bytes FromPlant .state) (judgedAt t bytes (by time bytes FromPlant .answer)))
+        (clock-at time l) (stepped-ours (timed time s) h (run-onward time s h l i) bytes small (s .clock) true (ap comesFromPlant e))
+    by-direction time bytes small l NotOurs e = stepped-not-ours (run-onward time s h l i) (s .clock) time bytes (clock-at time l)
 
     early : (time : ℕ) (bytes : List ℕ) → packetRefusal (site .settings) (site .cell) (site .plant) time bytes s ≡ 0 → s .clock ≤ time
     early time bytes e =
@@ -495,162 +573,81 @@ module _ (x : Setup) (start : State) where
         first-none zero n q = refl
         first-none (suc m) n q = q
 
-    run-call : (call : Call) → Fits call → Run (stateAfter rules site s call) (eventOf rules site s call ∷ h)
+    stepped : (call : Call) → Fits call → Stepped (s .clock) h (stateAfter rules site s call) (eventOf rules site s call)
     unfolding stateAfter eventOf judged passed
-    run-call (packetAt time bytes) small = go (packetRefusal (site .settings) (site .cell) (site .plant) time bytes s) refl
+    stepped (packetAt time bytes) small = go (packetRefusal (site .settings) (site .cell) (site .plant) time bytes s) refl
       where
         after : After Answer
-        after = accepted rules (site .settings) (headerOf bytes) (directionIn (site .cell) (site .plant) (headerOf bytes)) time s
+        after = by time bytes (directionIn (site .cell) (site .plant) (headerOf bytes))
 
         go : (n : ℕ) → packetRefusal (site .settings) (site .cell) (site .plant) time bytes s ≡ n
-            → Run (unlessRefused answer.Refused n s after .state) (judgedAt time bytes (unlessRefused answer.Refused n s after .answer) ∷ h)
+            → Stepped (s .clock) h (unlessRefused answer.Refused n s after .state) (judgedAt time bytes (unlessRefused answer.Refused n s after .answer))
         go zero e = by-direction time bytes small (early time bytes e) (directionIn (site .cell) (site .plant) (headerOf bytes)) refl
-        go (suc n) e = run-refused i time bytes (suc n)
-    run-call (timeAlone time) fits = go (timeRefusalAt (site .settings) time s) refl
-      where
-        after : After Reply
-        after = record { answer = Done; state = timed time s }
-
-        go : (n : ℕ) → timeRefusalAt (site .settings) time s ≡ n → Run (unlessRefused Refused n s after .state) (passedAt time (unlessRefused Refused n s after .answer) ∷ h)
-        go zero e =
-            run-passed (run-onward time s h (time-in-order (site .settings) (length (s .tables .records)) (length (s .tables .tags)) (length (s .tables .counts)) (s .clock) time e) i) time Done
-        go (suc n) e = run-passed i time (Refused (suc n))
-
-    -- the clock is the last time that was not refused
-    told : (direction : Direction) (bytes : List ℕ) (tables : Tables) → refusalTold (byDirection rules (site .settings) (headerOf bytes) direction tables .answer) ≡ 0
-    unfolding byDirection ours
-    told FromCell bytes tables = refl
-    told FromPlant bytes tables = refl
-    told NotOurs bytes tables = refl
-
-    clock-call : s .clock ≡ clockAfter (start .clock) h → (call : Call) → stateAfter rules site s call .clock ≡ clockAfter (start .clock) (eventOf rules site s call ∷ h)
-    unfolding stateAfter eventOf judged passed
-    clock-call same (packetAt time bytes) = go (packetRefusal (site .settings) (site .cell) (site .plant) time bytes s) refl
-      where
-        direction : Direction
-        direction = directionIn (site .cell) (site .plant) (headerOf bytes)
-
-        after : After Answer
-        after = accepted rules (site .settings) (headerOf bytes) direction time s
-
-        go : (n : ℕ) → packetRefusal (site .settings) (site .cell) (site .plant) time bytes s ≡ n
-            → unlessRefused answer.Refused n s after .state .clock ≡ clockAfter (start .clock) (judgedAt time bytes (unlessRefused answer.Refused n s after .answer) ∷ h)
-        go zero e =
-            clock-at time (early time bytes e)
-            ∙ sym (ap (λ (n : ℕ). unlessRefusedBy n time (clockAfter (start .clock) h)) (told direction bytes (timed time s .tables)))
-        go (suc n) e = same
-    clock-call same (timeAlone time) = go (timeRefusalAt (site .settings) time s) refl
+        go (suc n) e = stepped-refused i (s .clock) time bytes n refl
+    stepped (timeAlone time) fits = go (timeRefusalAt (site .settings) time s) refl
       where
         after : After Reply
         after = record { answer = Done; state = timed time s }
 
         go : (n : ℕ) → timeRefusalAt (site .settings) time s ≡ n
-            → unlessRefused Refused n s after .state .clock ≡ clockAfter (start .clock) (passedAt time (unlessRefused Refused n s after .answer) ∷ h)
-        go zero e = clock-at time (time-in-order (site .settings) (length (s .tables .records)) (length (s .tables .tags)) (length (s .tables .counts)) (s .clock) time e)
-        go (suc n) e = same
-
-  -- ---- what is answered 4 is what is fresh
-  abbrev Answered : ℕ → List Event → Type 0
-  Answered address h = freshContacts rules site held address h ≡ fours rules site address h
-
-  module _ (s : State) (h : List Event) (i : Run s h) (address : ℕ) (so : Answered address h) where
-    four-ours : (bytes : List ℕ) → cellAddress (oursOf site bytes) < 2 ^ 32 → (fromPlant : Bool) → oursOf site bytes .fromPlant ≡ fromPlant
-        → Answered address (judgedAt (s .clock) bytes (ours rules (site .settings) (headerOf bytes) fromPlant (s .tables) .answer) ∷ h)
-    unfolding rulingOf
-    four-ours bytes small fromPlant e =
-        subst (λ (outcome : Outcome). Answered address (judgedAt (s .clock) bytes (outcome .answer) ∷ h)) (ours-is s h i bytes small fromPlant e)
-        (λ j. so j + cond (eqb (cellAddress (oursOf site bytes)) address && fresh-is s h i bytes small j) (r .weight (headerOf bytes)) 0)
-
-  module _ (s : State) (h : List Event) (i : Run s h) (address : ℕ) (so : Answered address h) where
-    four-direction : (time : ℕ) (bytes : List ℕ) → Fits (packetAt time bytes) → s .clock ≤ time → (direction : Direction)
-        → directionIn (site .cell) (site .plant) (headerOf bytes) ≡ direction
-        → Answered address (judgedAt time bytes (accepted rules (site .settings) (headerOf bytes) direction time s .answer) ∷ h)
-    unfolding byDirection
-    four-direction time bytes small l FromCell e =
-        subst (λ (t : ℕ). Answered address (judgedAt t bytes (accepted rules (site .settings) (headerOf bytes) FromCell time s .answer) ∷ h))
-        (clock-at s h i time l) (four-ours (timed time s) h (run-onward time s h l i) address so bytes small false (ap comesFromPlant e))
-    four-direction time bytes small l FromPlant e =
-        subst (λ (t : ℕ). Answered address (judgedAt t bytes (accepted rules (site .settings) (headerOf bytes) FromPlant time s .answer) ∷ h))
-        (clock-at s h i time l) (four-ours (timed time s) h (run-onward time s h l i) address so bytes small true (ap comesFromPlant e))
-    four-direction time bytes small l NotOurs e = so
-
-    four-call : (call : Call) → Fits call → Answered address (eventOf rules site s call ∷ h)
-    unfolding eventOf judged
-    four-call (packetAt time bytes) small = go (packetRefusal (site .settings) (site .cell) (site .plant) time bytes s) refl
-      where
-        after : After Answer
-        after = accepted rules (site .settings) (headerOf bytes) (directionIn (site .cell) (site .plant) (headerOf bytes)) time s
-
-        go : (n : ℕ) → packetRefusal (site .settings) (site .cell) (site .plant) time bytes s ≡ n
-            → Answered address (judgedAt time bytes (unlessRefused answer.Refused n s after .answer) ∷ h)
-        go zero e = four-direction time bytes small (early s h i time bytes e) (directionIn (site .cell) (site .plant) (headerOf bytes)) refl
-        go (suc n) e = so
-    four-call (timeAlone time) fits = so
-
-  -- ---- a packet that is answered 6
-  abbrev Enough : List ℕ → List Event → Type 0
-  Enough bytes h =
-      r .threshold ≤ freshContacts rules site held (cellAddress (oursOf site bytes)) h + up (countIn start (cellAddress (oursOf site bytes)))
-
-  module _ (s : State) (h : List Event) (i : Run s h) (bytes : List ℕ) (small : cellAddress (oursOf site bytes) < 2 ^ 32) {c : ℤ} {gone : Replacement} where
-    six-ours : (fromPlant : Bool) → oursOf site bytes .fromPlant ≡ fromPlant
-        → ours rules (site .settings) (headerOf bytes) fromPlant (s .tables) .answer ≡ answer.Judged Blocked c gone → Enough bytes h
-    unfolding rulingOf
-    six-ours fromPlant e told =
-        let packet = oursOf site bytes in
-        let byte = getD (s .tables .records) (slotFor rules site packet) 0 in
-        let count = countIn s (cellAddress packet) in
-        let six = same-verdict (ap (λ (o : Outcome). o .answer) (ours-is s h i bytes small fromPlant e) ∙ told) in
-        holds-blocked (i .books (cellAddress packet) small)
-        (reaches (r .threshold) count
-        (ruled (packet .fromPlant) (isBlocked (r .threshold) count) (marksOf byte) (packet .header .transport .kind) .six-blocked (ap isSix six)))
-
-  module _ (s : State) (h : List Event) (i : Run s h) where
-    six-direction : (time : ℕ) (bytes : List ℕ) → Fits (packetAt time bytes) → s .clock ≤ time → {c : ℤ} {gone : Replacement} → (direction : Direction) → directionIn (site .cell) (site .plant) (headerOf bytes) ≡ direction
-        → byDirection rules (site .settings) (headerOf bytes) direction (timed time s .tables) .answer ≡ answer.Judged Blocked c gone → Enough bytes h
-    unfolding byDirection
-    six-direction time bytes small l FromCell e told = six-ours (timed time s) h (run-onward time s h l i) bytes small false (ap comesFromPlant e) told
-    six-direction time bytes small l FromPlant e told = six-ours (timed time s) h (run-onward time s h l i) bytes small true (ap comesFromPlant e) told
-    six-direction time bytes small l NotOurs e told = absurd (not-ours told)
-
-    six-call : (call : Call) → Fits call → (time : ℕ) (bytes : List ℕ) (c : ℤ) (gone : Replacement)
-        → eventOf rules site s call ≡ judgedAt time bytes (answer.Judged Blocked c gone) → Enough bytes h
-    unfolding eventOf judged
-    six-call (packetAt time′ bytes′) small time bytes c gone e =
-        subst (λ (b : List ℕ). Enough b h) (same-bytes e) (go (packetRefusal (site .settings) (site .cell) (site .plant) time′ bytes′ s) refl (same-answer e))
-      where
-        after : After Answer
-        after = accepted rules (site .settings) (headerOf bytes′) (directionIn (site .cell) (site .plant) (headerOf bytes′)) time′ s
-
-        go : (n : ℕ) → packetRefusal (site .settings) (site .cell) (site .plant) time′ bytes′ s ≡ n
-            → unlessRefused answer.Refused n s after .answer ≡ answer.Judged Blocked c gone → Enough bytes′ h
-        go zero q told = six-direction time′ bytes′ small (early s h i time′ bytes′ q) (directionIn (site .cell) (site .plant) (headerOf bytes′)) refl told
-        go (suc n) q told = absurd (not-judged told)
-    six-call (timeAlone time′) fits time bytes c gone e = absurd (not-passed e)
+            → Stepped (s .clock) h (unlessRefused Refused n s after .state) (passedAt time (unlessRefused Refused n s after .answer))
+        go zero e =
+            let l = time-in-order (site .settings) (length (s .tables .records)) (length (s .tables .tags)) (length (s .tables .counts)) (s .clock) time e in
+            stepped-passed (run-onward time s h l i) (s .clock) time Done (λ same. clock-at time l)
+        go (suc n) e = stepped-passed i (s .clock) time (Refused (suc n)) (λ same. same)
+    stepped (whyAt time bytes) fits = stepped-explained i (s .clock) time bytes _ refl
 
   -- ---- a run
   abbrev pub AllFit : List Call → Type 0
   AllFit [] = Unit {0}
   AllFit (call ∷ calls) = Fits call × AllFit calls
 
+  one-more : (address : ℕ) (h : List Event) (event : Event) → Rightly h event → freshContacts rules site held address h ≡ fours rules site address h
+      → freshContacts rules site held address (event ∷ h) ≡ fours rules site address (event ∷ h)
+  one-more address h (judgedAt time bytes answered) four so =
+      λ j. so j + cond (eqb (cellAddress (oursOf site bytes)) address && four .0 j) (r .weight (headerOf bytes)) 0
+  one-more address h (passedAt time reply) four so = so
+  one-more address h (explainedAt time bytes why) four so = so
+
   module _ (good : Good) where
     pub run : (calls : List Call) → AllFit calls → Run (left rules site start calls) (history rules site start calls)
     unfolding left history
     run [] fit = run-start good
-    run (call ∷ calls) fit = run-call (left rules site start calls) (history rules site start calls) (run calls (fit .1)) call (fit .0)
+    run (call ∷ calls) fit = stepped (left rules site start calls) (history rules site start calls) (run calls (fit .1)) call (fit .0) .run
+
+    -- the last call of a run
+    last : (call : Call) (calls : List Call) → Fits call → AllFit calls
+        → Stepped (left rules site start calls .clock) (history rules site start calls)
+        (stateAfter rules site (left rules site start calls) call) (eventOf rules site (left rules site start calls) call)
+    last call calls fits fit = stepped (left rules site start calls) (history rules site start calls) (run calls fit) call fits
 
     clock-is : (calls : List Call) → AllFit calls → left rules site start calls .clock ≡ clockAfter (start .clock) (history rules site start calls)
     unfolding left history
     clock-is [] fit = refl
-    clock-is (call ∷ calls) fit =
-        clock-call (left rules site start calls) (history rules site start calls) (run calls (fit .1)) (clock-is calls (fit .1)) call
+    clock-is (call ∷ calls) fit = last call calls (fit .0) (fit .1) .time (clock-is calls (fit .1))
+
+    -- what was answered to each call, by what came before it
+    rightly-at : (calls : List Call) → AllFit calls → (newer older : List Event) (event : Event)
+        → history rules site start calls ≡ newer ++ (event ∷ older) → Rightly older event
+    unfolding left history
+    rightly-at [] fit [] older event e = absurd (not-nil e)
+    rightly-at [] fit (y ∷ newer) older event e = absurd (not-nil e)
+    rightly-at (call ∷ calls) fit [] older event e = subst (λ (x : List Event × Event). Rightly (x .0) (x .1)) (λ i. (same-tail e i, same-head e i)) (last call calls (fit .0) (fit .1) .rightly)
+    rightly-at (call ∷ calls) fit (y ∷ newer) older event e = rightly-at calls (fit .1) newer older event (same-tail e)
 
     -- verdict 4 is answered exactly to fresh contacts
-    pub answered : (calls : List Call) → AllFit calls → (address : ℕ) → Answered address (history rules site start calls)
+    pub four-is-fresh : (calls : List Call) → AllFit calls → (newer older : List Event) (time : ℕ) (bytes : List ℕ) (answered : Answer)
+        → history rules site start calls ≡ newer ++ (judgedAt time bytes answered ∷ older)
+        → isFresh rules site held time (oursOf site bytes) (verdictTold answered) older ≡ tells 4 (verdictTold answered)
+    four-is-fresh calls fit newer older time bytes answered e = rightly-at calls fit newer older (judgedAt time bytes answered) e .0
+
+    -- so as many are answered 4 as are fresh
+    pub answered : (calls : List Call) → AllFit calls → (address : ℕ)
+        → freshContacts rules site held address (history rules site start calls) ≡ fours rules site address (history rules site start calls)
     unfolding left history
     answered [] fit address = refl
     answered (call ∷ calls) fit address =
-        four-call (left rules site start calls) (history rules site start calls) (run calls (fit .1)) address (answered calls (fit .1) address) call (fit .0)
+        one-more address (history rules site start calls) (eventOf rules site (left rules site start calls) call) (last call calls (fit .0) (fit .1) .rightly) (answered calls (fit .1) address)
 
     -- the bound of demand 3, from any start
     pub bound : (calls : List Call) → AllFit calls → (address : ℕ) → address < 2 ^ 32
@@ -664,12 +661,7 @@ module _ (x : Setup) (start : State) where
         (clock-is calls fit) (holds-bound (run calls fit .books address l))
 
     -- no packet is dropped as blocked before enough fresh contacts of its address were forwarded
-    pub not-before : (calls : List Call) → AllFit calls → (newer older : List Event) (time : ℕ) (bytes : List ℕ) (c : ℤ) (gone : Replacement)
-        → history rules site start calls ≡ newer ++ (judgedAt time bytes (answer.Judged Blocked c gone) ∷ older) → Enough bytes older
-    unfolding left history
-    not-before [] fit [] older time bytes c gone e = absurd (not-nil e)
-    not-before [] fit (y ∷ newer) older time bytes c gone e = absurd (not-nil e)
-    not-before (call ∷ calls) fit [] older time bytes c gone e =
-        subst (λ (h : List Event). Enough bytes h) (same-tail e)
-        (six-call (left rules site start calls) (history rules site start calls) (run calls (fit .1)) call (fit .0) time bytes c gone (same-head e))
-    not-before (call ∷ calls) fit (y ∷ newer) older time bytes c gone e = not-before calls (fit .1) newer older time bytes c gone (same-tail e)
+    pub not-before : (calls : List Call) → AllFit calls → (newer older : List Event) (time : ℕ) (bytes : List ℕ) (answered : Answer)
+        → history rules site start calls ≡ newer ++ (judgedAt time bytes answered ∷ older) → verdictTold answered ≡ some 6 → Enough bytes older
+    not-before calls fit newer older time bytes answered e six =
+        rightly-at calls fit newer older (judgedAt time bytes answered) e .1 (ap (tells 6) six)

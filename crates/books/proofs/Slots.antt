@@ -3,6 +3,7 @@
 -- Assumes nothing.
 use mathlib.Core.Bool.{Bool, true, false, not, _&&_, _||_, cond}
 use mathlib.Core.List.{List, [], _∷_}
+use mathlib.Core.Option.{Option, some}
 use mathlib.Core.Path.{_≡_, refl, sym, ap, subst, _∙_}
 use Prim.Native.Nat.{ℕ, zero, suc, _+_, _≤_, _<_}
 use native.Mathlib.Nat.{le-trans}
@@ -19,31 +20,41 @@ use Rattle.tables.proofs.Jumps.{passed-none, passed-add}
 use Rattle.packet.specs.declared.kinds.Kind.{Kind}
 use Rattle.verdicts.specs.declared.Verdict.{Verdict}
 use Rattle.verdicts.specs.declared.Verdict.the-variants.{Uncounted, CreditOfOne, CreditOfTwo, FreshContact, Hygiene, Blocked}
-use Rattle.verdicts.specs.Verdicts.{isForwarded, isUdp, isOpening, isSynAck, isClosing, isCounted, fromThePlant, fromTheCell, fromBlockedCell, verdictOf, plantBegins, marksAfter, recordAfter}
-use Rattle.history.specs.Answered.{isFour}
-use Rattle.history.specs.Fresh.{Ours, Forwarded, closesFromPlant, isLive}
+use Rattle.verdicts.specs.Verdicts.{numberOf, isForwarded, isUdp, isOpening, isSynAck, isClosing, isCounted, fromThePlant, fromTheCell, fromBlockedCell, verdictOf, plantBegins, marksAfter, recordAfter}
+use Rattle.history.specs.Fresh.{Ours, tells, forwards, Forwarded, closesFromPlant, isLive}
 use Rattle.books.proofs.Apart.{twice-not}
 
 -- ---- verdicts: 4 is the only one that forwards a cell packet on a record with neither mark
+-- a verdict's number, as an answer tells it
+abbrev pub toldOf : Verdict → Option ℕ
+toldOf verdict = some (numberOf verdict)
+
+abbrev pub isFour : Verdict → Bool
+isFour verdict = tells 4 (toldOf verdict)
+
 abbrev pub isSix : Verdict → Bool
-isSix Uncounted = false
-isSix CreditOfOne = false
-isSix CreditOfTwo = false
-isSix FreshContact = false
-isSix Hygiene = false
-isSix Blocked = true
+isSix verdict = tells 6 (toldOf verdict)
+
+-- by its number it forwards a packet of ours exactly if by its case it does
+pub by-number : (verdict : Verdict) → isForwarded verdict ≡ forwards (toldOf verdict)
+by-number Uncounted = refl
+by-number CreditOfOne = refl
+by-number CreditOfTwo = refl
+by-number FreshContact = refl
+by-number Hygiene = refl
+by-number Blocked = refl
 
 -- what is known of a verdict: it is 4 exactly if forwarded, from the cell, and on a record with neither mark, and then not blocked; 6 only
 -- if blocked
 pub record Ruled (fromPlant blocked unmarked : Bool) (verdict : Verdict) : Type 0 where
-  pub four : (isForwarded verdict && (not fromPlant && unmarked)) ≡ isFour verdict
+  pub four : (forwards (toldOf verdict) && (not fromPlant && unmarked)) ≡ isFour verdict
   pub four-open : isFour verdict ≡ true → blocked ≡ false
   pub six-blocked : isSix verdict ≡ true → blocked ≡ true
   pub four-counts : isFour verdict ≡ true → isCounted verdict ≡ true
 
 -- a verdict that is neither 4 nor 6
 quiet : {fromPlant blocked unmarked : Bool} (verdict : Verdict) → isFour verdict ≡ false → isSix verdict ≡ false
-    → (isForwarded verdict && (not fromPlant && unmarked)) ≡ false → Ruled fromPlant blocked unmarked verdict
+    → (forwards (toldOf verdict) && (not fromPlant && unmarked)) ≡ false → Ruled fromPlant blocked unmarked verdict
 quiet verdict f s e =
     record {
       four = e ∙ sym f;
@@ -153,18 +164,18 @@ module _ (fromPlant blocked : Bool) (kind : Kind) (byte : ℕ) where
   abbrev verdict : Verdict
   verdict = verdictOf fromPlant blocked (marksOf byte) kind
 
-  pub forwarded-record : isForwarded verdict ≡ true → Renewed (not (fromPlant && isClosing kind) || not (isCold byte)) (recordAfter fromPlant kind verdict byte)
+  pub forwarded-record : forwards (toldOf verdict) ≡ true → Renewed (not (fromPlant && isClosing kind) || not (isCold byte)) (recordAfter fromPlant kind verdict byte)
   unfolding recordAfter
   forwarded-record f =
-      rw f
+      rw (by-number verdict ∙ f)
       (subst (λ (x : Bool). Renewed (not (fromPlant && isClosing kind) || x) (recordBy fromPlant (plantSeen byte) (cellSeen byte) (isClosing kind) (isCounted verdict) byte))
       (sym (twice-not (plantSeen byte || cellSeen byte)))
       (renewed fromPlant (plantSeen byte) (cellSeen byte) (isClosing kind) (isCounted verdict) byte refl
       (λ e. ruled fromPlant blocked (marksOf byte) kind .four-counts (sym (ruled fromPlant blocked (marksOf byte) kind .four) ∙ and-yes f e))))
 
-  pub dropped-record : isForwarded verdict ≡ false → recordAfter fromPlant kind verdict byte ≡ byte
+  pub dropped-record : forwards (toldOf verdict) ≡ false → recordAfter fromPlant kind verdict byte ≡ byte
   unfolding recordAfter
-  dropped-record f = rw f
+  dropped-record f = rw (by-number verdict ∙ f)
 
 -- ---- the slot's record and its history
 -- by Dconn, the start's clock and the slot's record there, b0: what was live when the history began
@@ -263,10 +274,10 @@ module _ (dconn start b0 : ℕ) where
             record { mark = ap not c ∙ sym l; old = λ w. true-is-not-false c w; past = past }
 
         aged : (m : ℕ) → 0 < m → multiplesPassed 60 time later ≡ m → isCold b ≡ false → Which dconn (ageOf b + m) → Kept (agedBy dconn m b) later forwarded
-        aged m some e c (below l) =
-            cold (agedBy dconn m b) (aged-old dconn m b c (omega arith) some)
+        aged m passing e c (below l) =
+            cold (agedBy dconn m b) (aged-old dconn m b c (omega arith) passing)
             (still false (lt-leb (since later forwarded) dconn (omega (arith, more, e, i .old c))) (lived c))
-        aged m some e c (above l) =
+        aged m passing e c (above l) =
             let is = aged-kept dconn m b c (omega arith) in
             let marks = same-marks b m (omega arith) in
             let older = older-age b m (omega arith) in

@@ -27,7 +27,7 @@ use Rattle.entries.proofs.Decay.{by-dn}
 use Rattle.entries.proofs.Once.{Once, gone-after}
 use Rattle.rulings.specs.Answers.{addressTold}
 use Rattle.gateway.specs.Packets.{replacementOf}
-use Rattle.history.specs.Fresh.{names}
+use Rattle.history.specs.Fresh.{tells}
 
 -- a count that is above -32,768 is not the mark of an empty entry
 pub not-empty : (c : ℤ) → dn c < 32768 → isEmpty c ≡ false
@@ -59,7 +59,7 @@ module _ {keys : List ℕ} (k : Keys keys) (a : ℕ) (few : a ≤ 32) where
 
       -- the address that the answer names as replaced, if any
       abbrev pub isNamed : ℕ → Bool
-      isNamed address = names address (addressTold (replacementOf keys (2 ^ a) (placed writer .line) (wrote .replaced)))
+      isNamed address = tells address (addressTold (replacementOf keys (2 ^ a) (placed writer .line) (wrote .replaced)))
 
       module _ (once : Once tags counts) (other : ℕ) (small : other < 2 ^ 32) (writer-small : writer < 2 ^ 32) (apart : other ≢ writer) where
         -- its count stays, or it is named and its count is 0
@@ -77,7 +77,7 @@ module _ {keys : List ℕ} (k : Keys keys) (a : ℕ) (few : a ≤ 32) where
 
             named : placed other .line ≡ placed writer .line → (t : ℕ) → wrote .replaced ≡ Tag t → t ≡ placed other .tag → isNamed other ≡ true
             named e t told same =
-                ap (λ (r : Replaced). names other (addressTold (replacementOf keys (2 ^ a) (placed writer .line) r))) told
+                ap (λ (r : Replaced). tells other (addressTold (replacementOf keys (2 ^ a) (placed writer .line) r))) told
                 ∙ eq-eqb _ other ((λ i. addressOf keys (record { line = sym e i; tag = same i }) (2 ^ a)) ∙ recovered k a few other small)
 
             by-replaced : placed other .line ≡ placed writer .line → (r : Replaced) → wrote .replaced ≡ r → Kept (placed writer .line) (isNamed other)

@@ -28,34 +28,35 @@ abbrev pub badTables : State → Bool
 badTables s = bySizes badSizes (s .tables)
 
 module _ (rules : Settings → Rules) (settings : Settings) where
-  abbrev at : ℕ → State → State
+  -- the state at a time
+  abbrev pub at : ℕ → State → State
   at time s = onward (rules settings .point) settings time s
 
-  -- the sizes stay
-  sizes-stay : (time : ℕ) (s : State) → badTables (at time s) ≡ badTables s
-  sizes-stay time s = λ i. badSizes
+  -- the sizes stay, so that a test of them has the same outcome
+  pub sizes-stay : {A : Type 0} (test : ℕ → ℕ → ℕ → A) (time : ℕ) (s : State) → bySizes test (at time s .tables) ≡ bySizes test (s .tables)
+  sizes-stay test time s = λ i. test
       (records-stay (rules settings .point) (settings .dmiss) (settings .dconn) time (timedIn s) i)
       (length (s .tables .tags))
       (counts-stay (rules settings .point) (settings .dmiss) (settings .dconn) time (timedIn s) i)
 
   -- the clock is then the time
-  clock-at : (time : ℕ) (s : State) → s .clock ≤ time → at time s .clock ≡ time
+  pub clock-at : (time : ℕ) (s : State) → s .clock ≤ time → at time s .clock ≡ time
   clock-at time s h = omega (arith, clock-is (rules settings .point) (settings .dmiss) (settings .dconn) time (timedIn s))
 
   -- by way of a moment between
-  at-at : (between time : ℕ) (s : State) → s .clock ≤ between → between ≤ time → at time (at between s) ≡ at time s
+  pub at-at : (between time : ℕ) (s : State) → s .clock ≤ between → between ≤ time → at time (at between s) ≡ at time s
   at-at between time s h l =
       ap (changedTo s) (sym (by-way-of (rules settings .point) (settings .dmiss) (settings .dconn) between time (timedIn s) h l))
+
+  -- a call that passes to the next second
+  abbrev pub nextSecond : State → State
+  nextSecond s = passed rules settings (suc (s .clock)) s .state
 
   module _ (good : badSettings settings ≡ false) where
     -- a call that is not refused
     pub passes : (time : ℕ) (s : State) → badTables s ≡ false → s .clock ≤ time → passed rules settings time s .state ≡ at time s
     unfolding passed timeRefusal
     passes time s sized h = rw (good, sized, le-ltb _ _ h)
-
-    -- a call that passes to the next second
-    abbrev pub nextSecond : State → State
-    nextSecond s = passed rules settings (suc (s .clock)) s .state
 
     seconds : (gap : ℕ) (s : State) → badTables s ≡ false → times gap nextSecond s ≡ at (s .clock + gap) s
     seconds zero s sized =
@@ -66,7 +67,7 @@ module _ (rules : Settings → Rules) (settings : Settings) where
         let next : suc (at (s .clock + gap) s .clock) ≡ s .clock + suc gap = omega arith in
         times-more nextSecond gap s
         ∙ ap nextSecond (seconds gap s sized)
-        ∙ passes _ (at (s .clock + gap) s) (sizes-stay (s .clock + gap) s ∙ sized) (omega arith)
+        ∙ passes _ (at (s .clock + gap) s) (sizes-stay badSizes (s .clock + gap) s ∙ sized) (omega arith)
         ∙ ap (λ (t : ℕ). at t (at (s .clock + gap) s)) next
         ∙ at-at (s .clock + gap) (s .clock + suc gap) s (omega arith) (omega arith)
 

@@ -2,6 +2,7 @@
 pub mod Steps
 pub mod Refusals
 pub mod Jumps
+pub mod Gaps
 pub mod Openings
 pub mod Explained
 pub mod Agreement

@@ -1,17 +1,22 @@
--- The test of being live is document 01's own wording: after a cold start it passes exactly if some earlier packet forwarded on the
--- slot, other than a closing one from the plant, has no gap of over Dconn boundaries from it to now.
+-- The tests of being live and of being fresh are document 01's own wording. After a cold start the first passes exactly if some earlier
+-- packet forwarded on the slot, other than a closing one from the plant, has no gap of over Dconn boundaries from it to now; the other
+-- exactly if a cell packet was forwarded whose slot was not live.
 -- Assumes nothing.
-use mathlib.Core.Bool.{Bool, true, false, not, _||_}
+use mathlib.Core.Bool.{Bool, true, false, not, _&&_, _||_}
 use mathlib.Core.List.{List, [], _∷_, _++_}
 use mathlib.Core.Logic.{_↔_}
+use mathlib.Core.Option.{Option}
 use mathlib.Core.Path.{_≡_, refl, sym, ap, subst, _∙_}
 use Prim.Native.Nat.{ℕ, _≤_}
 use native.Mathlib.Omega.{arith}
 use lib.Dec.{leb}
-use borrow.Author.Tests.{leb-true, le-leb}
-use Rattle.laws.proofs.Tests.{true-is-not-false, and-left, and-right, and-yes}
+use borrow.Author.Tests.{leb-true, le-leb, not-true}
+use Rattle.laws.proofs.Tests.{true-is-not-false, is-false, and-left, and-right, and-yes}
+use Rattle.settings.specs.declared.Settings.{Settings}
 use Rattle.tables.specs.Clock.{multiplesPassed}
-use Rattle.history.specs.Fresh.{Forwarded, closesFromPlant, NoLongGap, Live, isLive}
+use Rattle.rulings.specs.Rules.{Rules}
+use Rattle.history.specs.Runs.{Site, Event}
+use Rattle.history.specs.Fresh.{Ours, forwards, Forwarded, closesFromPlant, NoLongGap, Live, isLive, nothingHeld, slotFor, forwardedOn, Fresh, liveFor, isFresh}
 
 module _ (dconn : ℕ) where
   abbrev test : ℕ → List Forwarded → Bool
@@ -62,3 +67,26 @@ module _ (dconn : ℕ) where
   pub live-is : (now : ℕ) (forwarded : List Forwarded) → (test now forwarded ≡ true) ↔ Live dconn now forwarded
   live-is now forwarded =
       (in-words now forwarded, λ l. subst (λ (xs : List Forwarded). test now xs ≡ true) (sym (l .some-earlier)) (reached now (l .newer) (l .it) (l .older) (l .other-than) (l .from-it-to-now)))
+
+module _ (rules : Settings → Rules) (site : Site) (time : ℕ) (packet : Ours) (verdict : Option ℕ) (before : List Event) where
+  abbrev live : Bool
+  live = liveFor rules site nothingHeld packet time before
+
+  slot-is : (live ≡ true) ↔ Live (site .settings .dconn) time (forwardedOn rules site (slotFor rules site packet) before)
+  slot-is = live-is (site .settings .dconn) time (forwardedOn rules site (slotFor rules site packet) before)
+
+  pub fresh-is : (isFresh rules site nothingHeld time packet verdict before ≡ true) ↔ Fresh rules site time packet verdict before
+  fresh-is = (words, test-passes)
+    where
+      words : isFresh rules site nothingHeld time packet verdict before ≡ true → Fresh rules site time packet verdict before
+      words e =
+          let rest = and-right (forwards verdict) (not (packet .fromPlant) && not live) e in
+          record {
+            forwarded = and-left (forwards verdict) (not (packet .fromPlant) && not live) e;
+            cell-packet = not-true (packet .fromPlant) (and-left (not (packet .fromPlant)) (not live) rest);
+            slot-not-live = λ l. true-is-not-false (slot-is .1 l) (not-true live (and-right (not (packet .fromPlant)) (not live) rest));
+          }
+
+      test-passes : Fresh rules site time packet verdict before → isFresh rules site nothingHeld time packet verdict before ≡ true
+      test-passes f =
+          and-yes (f .forwarded) (and-yes (ap not (f .cell-packet)) (ap not (is-false live (λ l. f .slot-not-live (slot-is .0 l)))))

@@ -11,11 +11,12 @@ use Rattle.laws.specs.Signed.{minus}
 use Rattle.settings.specs.declared.Settings.{Settings}
 use Rattle.verdicts.specs.declared.Verdict.{Verdict}
 use Rattle.verdicts.specs.declared.Verdict.the-variants.{Uncounted, CreditOfOne, CreditOfTwo, FreshContact, Blocked}
+use Rattle.reasons.specs.declared.Explanation.the-variants as explanation
 use Rattle.rulings.specs.declared.answers.Replacement.the-variants.{None, Address}
 use Rattle.rulings.specs.declared.answers.Answer.the-variants.{Refused, NotOurs, Judged}
 use Rattle.rulings.specs.Rules.{Rules}
 use Rattle.gateway.specs.declared.Reply.the-variants as reply
-use Rattle.history.specs.Runs.{Site, Event, judgedAt, passedAt}
+use Rattle.history.specs.Runs.{Site, Event, judgedAt, passedAt, explainedAt}
 use Rattle.history.specs.Fresh.{nothingHeld, replacements, decays, credits, freshContacts}
 
 abbrev pub rules : Settings → Rules
@@ -56,6 +57,10 @@ judged time bytes verdict = judgedAt time bytes (Judged verdict (pos 0) None)
 abbrev replacing : ℕ → Event
 replacing address = judgedAt 100 (sent 2 1 2) (Judged FreshContact (pos 1) (Address address))
 
+-- the question why of a packet from 10.0.0.1 to 192.168.0.1, and the verdict that was explained
+abbrev asked : ℕ → Verdict → Event
+asked time verdict = explainedAt time (sent 1 1 2) (explanation.Forwarded verdict)
+
 -- of 10.0.0.1
 abbrev F : List Event → ℕ
 F h = freshContacts rules site nothingHeld 0x0A000001 h
@@ -95,16 +100,20 @@ examples =
     example (F (judged 100 (sent 1 1 2) Blocked ∷ [])) 0 ∷
     example (F (judged 100 (sent 1 1 2) FreshContact ∷ judged 100 (sent 1 1 2) Blocked ∷ [])) 1 ∷
     example (F (judged 100 (sent 1 1 2) FreshContact ∷ judgedAt 100 (sent 1 1 2) (Refused 4) ∷ [])) 1 ∷
+    -- the question why is no contact and makes no slot live
+    example (F (judged 100 (sent 1 1 2) FreshContact ∷ asked 100 FreshContact ∷ [])) 1 ∷
     -- other slots and other machines do not matter, but connections that share a slot share its life
     example (F (judged 100 (sent 1 1 2) FreshContact ∷ judged 100 (sent 1 2 2) FreshContact ∷ judged 100 (sent 2 3 2) FreshContact ∷ [])) 2 ∷
     example (F (judged 100 (sent 1 17 2) Uncounted ∷ judged 100 (sent 2 1 2) FreshContact ∷ [])) 0 ∷
     -- H: "1 per verdict 2 and 2 per verdict 3 for the address"
     example (H (judged 100 (sent 1 1 16) CreditOfOne ∷ [])) 1 ∷
     example (H (judged 100 (back 1 1 18) CreditOfTwo ∷ judged 100 (sent 1 1 2) FreshContact ∷ judged 100 (sent 1 2 16) Uncounted ∷ [])) 2 ∷
-    example (H (judged 100 (back 2 1 18) CreditOfTwo ∷ [])) 0 ∷
+    example (H (judged 100 (back 2 1 18) CreditOfTwo ∷ asked 100 CreditOfTwo ∷ [])) 0 ∷
     -- R: "the answers that name it as replaced"
     example (R (replacing 0x0A000001 ∷ replacing 0x0A000003 ∷ [])) 1 ∷
-    -- D: "the multiples of Dmiss passed since the cold start", at 120 and 180; a refused call passes no time, one that is not ours does
+    -- D: "the multiples of Dmiss passed since the cold start", at 120 and 180; a refused call and the question why pass no
+    -- time, a packet that is not ours does
     example (D (passedAt 180 reply.Done ∷ [])) 2 ∷
     example (D (passedAt 300 (reply.Refused 4) ∷ judgedAt 240 (sent 1 1 2) (Refused 5) ∷ judged 180 (sent 1 1 2) FreshContact ∷ [])) 2 ∷
+    example (D (asked 240 FreshContact ∷ judgedAt 180 (sent 1 1 2) NotOurs ∷ [])) 2 ∷
     example (D (judgedAt 119 (sent 1 1 2) NotOurs ∷ [])) 0 ∷ []

@@ -13,15 +13,12 @@ use Rattle.sides.specs.declared.Direction.{Direction}
 use Rattle.sides.specs.declared.Direction.the-variants.{FromCell, FromPlant, NotOurs}
 use Rattle.tables.specs.Clock.{multiplesPassed}
 use Rattle.settings.specs.declared.Settings.{Settings}
-use Rattle.verdicts.specs.declared.Verdict.{Verdict}
-use Rattle.verdicts.specs.declared.Verdict.the-variants.{Uncounted, CreditOfOne, CreditOfTwo, FreshContact, Hygiene, Blocked}
-use Rattle.verdicts.specs.Verdicts.{isForwarded, isClosing}
-use Rattle.rulings.specs.declared.answers.Answer.the-variants as answer
-use Rattle.rulings.specs.Answers.{refusalTold, replacedTold}
+use Rattle.verdicts.specs.Verdicts.{isClosing}
+use Rattle.rulings.specs.Answers.{refusalTold, verdictTold, replacedTold}
 use Rattle.rulings.specs.Rules.{Rules, cellOf}
 use Rattle.gateway.specs.Packets.{directionIn}
 use Rattle.gateway.specs.Calls.{refusalIn}
-use Rattle.history.specs.Runs.{Site, Event, judgedAt, passedAt}
+use Rattle.history.specs.Runs.{Site, Event, judgedAt, passedAt, explainedAt}
 
 -- ---- packets of ours, read from their bytes (a packet that is not ours is never asked about: only one that was judged is)
 pub record Ours : Type 0 where
@@ -43,6 +40,16 @@ cellAddress packet = cellOf (packet .header) (packet .fromPlant)
 -- "a closing one from the plant"
 abbrev pub closesFromPlant : Ours → Bool
 closesFromPlant packet = packet .fromPlant && isClosing (packet .header .transport .kind)
+
+-- ---- what was told, by document 01's numbers
+-- whether this number was told, of a verdict or of a replaced address
+abbrev pub tells : ℕ → Option ℕ → Bool
+tells number none = false
+tells number (some told) = eqb told number
+
+-- a packet of ours was forwarded: "1 forwarded .. 2 forwarded .. 3 forwarded .. 4 forwarded"
+abbrev pub forwards : Option ℕ → Bool
+forwards verdict = tells 1 verdict || (tells 2 verdict || (tells 3 verdict || tells 4 verdict))
 
 -- ---- live
 -- a packet that was forwarded, and when
@@ -76,26 +83,18 @@ abbrev pub nothingHeld : ℕ → ℕ → Bool
 nothingHeld slot now = false
 
 -- ---- H: "1 per verdict 2 and 2 per verdict 3"
-abbrev pub creditOf : Verdict → ℕ
-creditOf Uncounted = 0
-creditOf CreditOfOne = 1
-creditOf CreditOfTwo = 2
-creditOf FreshContact = 0
-creditOf Hygiene = 0
-creditOf Blocked = 0
+abbrev pub creditOf : Option ℕ → ℕ
+creditOf verdict = cond (tells 2 verdict) 1 (cond (tells 3 verdict) 2 0)
 
 -- ---- R: "the answers that name it as replaced"
-abbrev pub names : ℕ → Option ℕ → Bool
-names address none = false
-names address (some replaced) = eqb replaced address
-
 abbrev pub replacements : ℕ → List Event → ℕ
 replacements address [] = 0
 replacements address (judgedAt time bytes answered ∷ before) =
-    replacements address before + cond (names address (replacedTold answered)) 1 0
+    replacements address before + cond (tells address (replacedTold answered)) 1 0
 replacements address (passedAt time reply ∷ before) = replacements address before
+replacements address (explainedAt time bytes why ∷ before) = replacements address before
 
--- ---- the clock: the time of the last call that was not refused, and before any call the start's
+-- ---- the clock: the time of the last call that was not refused, and before any call the start's. The question why passes no time.
 abbrev pub unlessRefusedBy : ℕ → ℕ → ℕ → ℕ
 unlessRefusedBy zero time clock = time
 unlessRefusedBy (suc number) time clock = clock
@@ -104,6 +103,7 @@ abbrev pub clockAfter : ℕ → List Event → ℕ
 clockAfter start [] = start
 clockAfter start (judgedAt time bytes answered ∷ before) = unlessRefusedBy (refusalTold answered) time (clockAfter start before)
 clockAfter start (passedAt time reply ∷ before) = unlessRefusedBy (refusalIn reply) time (clockAfter start before)
+clockAfter start (explainedAt time bytes why ∷ before) = clockAfter start before
 
 module _ (rules : Settings → Rules) (site : Site) where
   abbrev pub slotFor : Ours → ℕ
@@ -112,13 +112,19 @@ module _ (rules : Settings → Rules) (site : Site) where
   -- the packets forwarded on a slot
   abbrev pub forwardedOn : ℕ → List Event → List Forwarded
   forwardedOn slot [] = []
-  forwardedOn slot (judgedAt time bytes (answer.Refused number) ∷ before) = forwardedOn slot before
-  forwardedOn slot (judgedAt time bytes answer.NotOurs ∷ before) = forwardedOn slot before
-  forwardedOn slot (judgedAt time bytes (answer.Judged verdict count replaced) ∷ before) =
-      cond (isForwarded verdict && eqb (slotFor (oursOf site bytes)) slot)
+  forwardedOn slot (judgedAt time bytes answered ∷ before) =
+      cond (forwards (verdictTold answered) && eqb (slotFor (oursOf site bytes)) slot)
       (record { time = time; packet = oursOf site bytes } ∷ forwardedOn slot before)
       (forwardedOn slot before)
   forwardedOn slot (passedAt time reply ∷ before) = forwardedOn slot before
+  forwardedOn slot (explainedAt time bytes why ∷ before) = forwardedOn slot before
+
+  -- "A fresh contact is a forwarded cell packet whose slot was not live.": in these words, of a packet, when it came, the verdict that was
+  -- told of it, and what came before it
+  pub record Fresh (time : ℕ) (packet : Ours) (verdict : Option ℕ) (before : List Event) : Type 0 where
+    pub forwarded : forwards verdict ≡ true
+    pub cell-packet : packet .fromPlant ≡ false
+    pub slot-not-live : Live (site .settings .dconn) time (forwardedOn (slotFor packet) before) → ⊥
 
   -- D: "the multiples of Dmiss passed since the cold start"
   abbrev pub decays : ℕ → List Event → ℕ
@@ -127,11 +133,10 @@ module _ (rules : Settings → Rules) (site : Site) where
   -- H, for an address
   abbrev pub credits : ℕ → List Event → ℕ
   credits address [] = 0
-  credits address (judgedAt time bytes (answer.Refused number) ∷ before) = credits address before
-  credits address (judgedAt time bytes answer.NotOurs ∷ before) = credits address before
-  credits address (judgedAt time bytes (answer.Judged verdict count replaced) ∷ before) =
-      credits address before + cond (eqb (cellAddress (oursOf site bytes)) address) (creditOf verdict) 0
+  credits address (judgedAt time bytes answered ∷ before) =
+      credits address before + cond (eqb (cellAddress (oursOf site bytes)) address) (creditOf (verdictTold answered)) 0
   credits address (passedAt time reply ∷ before) = credits address before
+  credits address (explainedAt time bytes why ∷ before) = credits address before
 
   module _ (held : ℕ → ℕ → Bool) where
     -- whether the packet's slot is live at a moment, by what came before
@@ -139,18 +144,17 @@ module _ (rules : Settings → Rules) (site : Site) where
     liveFor packet now before =
         isLive (held (slotFor packet)) (site .settings .dconn) now (forwardedOn (slotFor packet) before)
 
-    -- "A fresh contact is a forwarded cell packet whose slot was not live."
-    abbrev pub isFresh : ℕ → Ours → Verdict → List Event → Bool
-    isFresh time packet verdict before = isForwarded verdict && (not (packet .fromPlant) && not (liveFor packet time before))
+    -- whether a contact is fresh, as a test that computes (`fresh-is`, history/proofs/Live, says that after a cold start it is those words)
+    abbrev pub isFresh : ℕ → Ours → Option ℕ → List Event → Bool
+    isFresh time packet verdict before = forwards verdict && (not (packet .fromPlant) && not (liveFor packet time before))
 
     -- F: the fresh contacts of an address that were forwarded, each by its weight, which by document 01's rules is 1
     abbrev pub freshContacts : ℕ → List Event → ℕ
     freshContacts address [] = 0
-    freshContacts address (judgedAt time bytes (answer.Refused number) ∷ before) = freshContacts address before
-    freshContacts address (judgedAt time bytes answer.NotOurs ∷ before) = freshContacts address before
-    freshContacts address (judgedAt time bytes (answer.Judged verdict count replaced) ∷ before) =
+    freshContacts address (judgedAt time bytes answered ∷ before) =
         freshContacts address before
-        + cond (eqb (cellAddress (oursOf site bytes)) address && isFresh time (oursOf site bytes) verdict before)
+        + cond (eqb (cellAddress (oursOf site bytes)) address && isFresh time (oursOf site bytes) (verdictTold answered) before)
         (rules (site .settings) .weight (headerOf bytes))
         0
     freshContacts address (passedAt time reply ∷ before) = freshContacts address before
+    freshContacts address (explainedAt time bytes why ∷ before) = freshContacts address before

@@ -1,5 +1,4 @@
 -- What a run is, and what its history says.
 pub mod Runs
 pub mod Fresh
-pub mod Answered
 pub mod Examples

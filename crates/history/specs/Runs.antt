@@ -4,10 +4,12 @@
 use mathlib.Core.List.{List, [], _∷_}
 use Prim.Native.Nat.{ℕ}
 use Rattle.settings.specs.declared.Settings.{Settings}
+use Rattle.reasons.specs.declared.Explanation.{Explanation}
 use Rattle.rulings.specs.declared.answers.Answer.{Answer}
 use Rattle.rulings.specs.Rules.{Rules}
 use Rattle.gateway.specs.declared.Reply.{Reply}
 use Rattle.gateway.specs.Calls.{State, passed, judged}
+use Rattle.gateway.specs.Why.{whyOf}
 
 -- "with settings, side lists and sizes unchanged": what stays in a run. Of the sizes, what is fresh depends on the number of connection
 -- records.
@@ -17,25 +19,31 @@ pub record Site : Type 0 where
   pub plant : List ℕ
   pub records : ℕ
 
--- "calls of every other sort" than a cold start: a packet's bytes that come at a time, and a time alone
+-- "calls of every other sort" than a cold start: a packet's bytes that come at a time, a time alone, and the question why, of a packet's
+-- bytes at a time
 pub data Call : Type 0 where
   packetAt : ℕ → List ℕ → Call
   timeAlone : ℕ → Call
+  whyAt : ℕ → List ℕ → Call
 
 -- a call, and what it was answered
 pub data Event : Type 0 where
   judgedAt : ℕ → List ℕ → Answer → Event
   passedAt : ℕ → Reply → Event
+  explainedAt : ℕ → List ℕ → Explanation → Event
 
 module _ (rules : Settings → Rules) (site : Site) where
-  -- one call: the very definitions that the contracts of `judge` and `pass` cite
+  -- one call: the very definitions that the contracts of `judge`, `pass` and `why` cite. `why` is lent everything for reading alone: it
+  -- leaves the state as it was.
   unfoldable pub stateAfter : State → Call → State
   stateAfter before (packetAt time bytes) = judged rules (site .settings) (site .cell) (site .plant) time bytes before .state
   stateAfter before (timeAlone time) = passed rules (site .settings) time before .state
+  stateAfter before (whyAt time bytes) = before
 
   unfoldable pub eventOf : State → Call → Event
   eventOf before (packetAt time bytes) = judgedAt time bytes (judged rules (site .settings) (site .cell) (site .plant) time bytes before .answer)
   eventOf before (timeAlone time) = passedAt time (passed rules (site .settings) time before .answer)
+  eventOf before (whyAt time bytes) = explainedAt time bytes (whyOf rules (site .settings) (site .cell) (site .plant) time bytes before)
 
   -- the state that calls leave, from a first state, and their history
   unfoldable pub left : State → List Call → State

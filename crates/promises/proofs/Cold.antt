@@ -30,7 +30,7 @@ use Rattle.cold.specs.Cold.{coldTables}
 use Rattle.refusals.proofs.Tests.{good-start}
 use Rattle.gateway.specs.declared.Reply.the-variants.{Refused, Done}
 use Rattle.gateway.specs.Calls.{State, unlessRefused, coldState, started}
-use Rattle.history.specs.Runs.{Call, packetAt, timeAlone}
+use Rattle.history.specs.Runs.{Call, packetAt, timeAlone, whyAt}
 use Rattle.history.specs.Fresh.{oursOf, nothingHeld}
 use Rattle.books.proofs.Apart.{not-some}
 use Rattle.books.proofs.Lawful.{Lawful}
@@ -158,3 +158,4 @@ module _ (g : Gateway) (cold : StartsCold g) where
   all-fit [] e = tt
   all-fit (packetAt time bytes ∷ calls) e = (address-fits (oursOf (site g) bytes .fromPlant) bytes (e .0), all-fit calls (e .1))
   all-fit (timeAlone time ∷ calls) e = (tt, all-fit calls e)
+  all-fit (whyAt time bytes ∷ calls) e = (tt, all-fit calls e)

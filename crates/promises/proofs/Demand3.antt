@@ -2,14 +2,13 @@
 -- Assumes nothing.
 use mathlib.Core.Bool.{Bool}
 use mathlib.Core.List.{List, _∷_, _++_}
+use mathlib.Core.Option.{some}
 use mathlib.Core.Path.{_≡_, ap}
 use Prim.Native.Nat.{ℕ, _≤_}
 use native.Mathlib.Omega.{arith}
-use lib.IntN.{ℤ}
 use Rattle.laws.proofs.Signed.{up, dn}
-use Rattle.verdicts.specs.declared.Verdict.the-variants.{Blocked}
-use Rattle.rulings.specs.declared.answers.Replacement.{Replacement}
-use Rattle.rulings.specs.declared.answers.Answer.the-variants.{Judged}
+use Rattle.rulings.specs.declared.answers.Answer.{Answer}
+use Rattle.rulings.specs.Answers.{verdictTold}
 use Rattle.rulings.specs.Rules.{document01}
 use Rattle.gateway.specs.Calls.{State}
 use Rattle.history.specs.Runs.{Call, Event, judgedAt, history}
@@ -29,8 +28,8 @@ module _ (g : Gateway) (cold : StartsCold g) (calls : List Call) (bytes : OfByte
 
   abbrev NotBefore : (ℕ → ℕ → Bool) → State → Type 0
   NotBefore began s =
-      (after before : List Event) (time : ℕ) (packet : List ℕ) (count : ℤ) (replaced : Replacement)
-      → history document01 (site g) s calls ≡ after ++ (judgedAt time packet (Judged Blocked count replaced) ∷ before)
+      (after before : List Event) (time : ℕ) (packet : List ℕ) (answered : Answer)
+      → history document01 (site g) s calls ≡ after ++ (judgedAt time packet answered ∷ before) → verdictTold answered ≡ some 6
       → least g ≤ freshContacts document01 (site g) began (cellAddress (oursOf (site g) packet)) before
 
   pub demand3 : Demand3 g calls
@@ -44,10 +43,10 @@ module _ (g : Gateway) (cold : StartsCold g) (calls : List Call) (bytes : OfByte
               ap dn (no-count g cold address),
               bound (setup g cold) (cold-state g cold) (good-start-state g cold) calls (all-fit g cold calls bytes) address l,
             ));
-        not-before = so g cold NotBefore (λ after before time packet count replaced e.
+        not-before = so g cold NotBefore (λ after before time packet answered e six.
             omega (
               arith,
               ap up (no-count g cold (cellAddress (oursOf (site g) packet))),
-              not-before (setup g cold) (cold-state g cold) (good-start-state g cold) calls (all-fit g cold calls bytes) after before time packet count replaced e,
+              not-before (setup g cold) (cold-state g cold) (good-start-state g cold) calls (all-fit g cold calls bytes) after before time packet answered e six,
             ));
       }

@@ -4,17 +4,16 @@
 -- 01, not from stored marks."
 -- Assumes nothing.
 use mathlib.Core.List.{List, [], _∷_, _++_}
+use mathlib.Core.Option.{some}
 use mathlib.Core.Path.{_≡_}
 use Prim.Native.Nat.{ℕ, _+_, _*_, _^_, _≤_, _<_}
-use lib.IntN.{ℤ}
 use lib.ListN.{length}
 use Rattle.settings.specs.declared.Settings.{Settings}
-use Rattle.verdicts.specs.declared.Verdict.the-variants.{Blocked}
-use Rattle.rulings.specs.declared.answers.Replacement.{Replacement}
-use Rattle.rulings.specs.declared.answers.Answer.the-variants.{Judged}
+use Rattle.rulings.specs.declared.answers.Answer.{Answer}
+use Rattle.rulings.specs.Answers.{verdictTold}
 use Rattle.rulings.specs.Rules.{document01}
 use Rattle.gateway.specs.Calls.{State, startRefusalAt, started}
-use Rattle.history.specs.Runs.{Site, Call, packetAt, timeAlone, Event, judgedAt, history}
+use Rattle.history.specs.Runs.{Site, Call, packetAt, timeAlone, whyAt, Event, judgedAt, history}
 use Rattle.history.specs.Fresh.{oursOf, cellAddress, nothingHeld, freshContacts, decays, credits, replacements}
 
 -- ---- a gateway and its one cold start
@@ -40,6 +39,7 @@ abbrev pub OfBytes : List Call → Type 0
 OfBytes [] = Unit {0}
 OfBytes (packetAt time bytes ∷ calls) = EachBelow 256 bytes × OfBytes calls
 OfBytes (timeAlone time ∷ calls) = OfBytes calls
+OfBytes (whyAt time bytes ∷ calls) = OfBytes calls
 
 -- ---- its run
 module _ (g : Gateway) where
@@ -68,15 +68,16 @@ module _ (g : Gateway) where
   abbrev pub R : ℕ → List Event → ℕ
   R address h = replacements address h
 
-  abbrev pub T : ℕ
-  T = g .settings .threshold
+  -- T
+  abbrev pub threshold : ℕ
+  threshold = g .settings .threshold
 
   -- "T + D + H + T × R", and "at least T"
   abbrev pub most : ℕ → List Event → ℕ
-  most address h = T + D h + H address h + T * R address h
+  most address h = threshold + D h + H address h + threshold * R address h
 
   abbrev pub least : ℕ
-  least = T
+  least = threshold
 
   -- ---- the demand
   pub record Demand3 (calls : List Call) : Type 0 where
@@ -84,6 +85,6 @@ module _ (g : Gateway) where
     pub bounded : (address : ℕ) → address < 2 ^ 32 → F address (happened calls) ≤ most address (happened calls)
     -- "no packet of its is dropped as blocked until at least T of its fresh contacts were forwarded": wherever 6 was answered, by what
     -- came before
-    pub not-before : (after before : List Event) (time : ℕ) (bytes : List ℕ) (count : ℤ) (replaced : Replacement)
-        → happened calls ≡ after ++ (judgedAt time bytes (Judged Blocked count replaced) ∷ before)
+    pub not-before : (after before : List Event) (time : ℕ) (bytes : List ℕ) (answered : Answer)
+        → happened calls ≡ after ++ (judgedAt time bytes answered ∷ before) → verdictTold answered ≡ some 6
         → least ≤ F (cellAddress (oursOf site bytes)) before

@@ -3,7 +3,7 @@
 -- Assumes nothing.
 use mathlib.Core.Bool.{Bool, true, _&&_}
 use mathlib.Core.List.{List, [], _∷_, map}
-use mathlib.Core.Path.{_≡_, refl, sym, ap, _∙_}
+use mathlib.Core.Path.{_≡_, refl, ap, _∙_}
 use Prim.Native.Nat.{ℕ, _^_, _<_}
 use native.Mathlib.Omega.{arith}
 use lib.Dec.{ltb}
@@ -39,13 +39,13 @@ use Rattle.cold.specs.Cold.{coldTables}
 use Rattle.refusals.specs.Refusals.{startRefusal, earlyRefusal}
 use Rattle.gateway.specs.Packets.{ours, byDirection}
 use Rattle.gateway.specs.Calls.{State, stateOf, After, started, judged}
-use Rattle.history.specs.Runs.{Call, packetAt, Event, judgedAt, stateAfter, eventOf, left, history}
-use Rattle.history.specs.Answered.{fours}
+use Rattle.history.specs.Runs.{Call, packetAt, whyAt, Event, judgedAt, stateAfter, eventOf, left, history}
 use Rattle.books.proofs.Apart.{same-head, same-tail}
+use Rattle.books.proofs.Runs.{fours}
 use Rattle.promises.specs.Demand3.{EachBelow, StartsCold, OfBytes, site, first, happened, F, D, H, R, most, least}
-use Rattle.promises.proofs.Memory.{memory}
+use Rattle.promises.proofs.Memory.{answered-as-fresh}
 use Rattle.witnesses.proofs.Permuted.{zeros, permuted}
-use Rattle.witnesses.specs.Tight.{gateway, syn, synAckBack, machine, all, exactly}
+use Rattle.witnesses.specs.Tight.{gateway, syn, synAckBack, machine, allowed, exactly}
 
 -- ---- the permutation back, for the two addresses that are replaced
 back : (permutation.D zeros 0xFCE676E6 ≡ 0x0A000001) × (permutation.D zeros 0xC0FE76E7 ≡ 0x0A000005)
@@ -214,28 +214,28 @@ starts = record { not-refused = refl; keys-are-words = each-below (2 ^ 32) (gate
 -- fresh contacts, from the history, by what was answered
 fresh-is : (rows : List Row) → made rows ≡ said rows → bytesOf rows ≡ true → F gateway machine (happened gateway (callsOf rows)) ≡ fours document01 (site gateway) machine (eventsOf rows)
 fresh-is rows e b =
-    memory gateway starts (callsOf rows) (of-bytes rows b) .answered-as-fresh machine ∙ ap (fours document01 (site gateway) machine) (happened-is rows e)
+    answered-as-fresh gateway starts (callsOf rows) (of-bytes rows b) machine ∙ ap (fours document01 (site gateway) machine) (happened-is rows e)
 
 -- ---- all that is allowed: seven, by T 2, D 1, H 2 and R 1
-seven : F gateway machine (happened gateway all) ≡ 7
+seven : F gateway machine (happened gateway allowed) ≡ 7
 unfolding every firstBelow foremost holds rankAt rankOf bestNumber bestIn decided headerOf
 seven = fresh-is allRows all-made refl
 
-each-counts : (D gateway (happened gateway all) ≡ 1) × (H gateway machine (happened gateway all) ≡ 2) × (R gateway machine (happened gateway all) ≡ 1)
+each-counts : (D gateway (happened gateway allowed) ≡ 1) × (H gateway machine (happened gateway allowed) ≡ 2) × (R gateway machine (happened gateway allowed) ≡ 1)
 unfolding howMany multiplesPassed every firstBelow foremost holds rankAt rankOf bestNumber bestIn decided headerOf
 each-counts =
     let h = happened-is allRows all-made in
     (ap (D gateway) h, ap (H gateway machine) h, ap (R gateway machine) h)
 
 -- the bound is reached, with every term of it above 0 and T above 1: none of them could go, nor the factor T
-pub reached : F gateway machine (happened gateway all) ≡ most gateway machine (happened gateway all)
+pub reached : F gateway machine (happened gateway allowed) ≡ most gateway machine (happened gateway allowed)
 reached = omega (arith, seven, each-counts)
 
-pub every-term : (0 < D gateway (happened gateway all)) × (0 < H gateway machine (happened gateway all)) × (0 < R gateway machine (happened gateway all))
+pub every-term : (0 < D gateway (happened gateway allowed)) × (0 < H gateway machine (happened gateway allowed)) × (0 < R gateway machine (happened gateway allowed))
 every-term = (omega (arith, each-counts), omega (arith, each-counts), omega (arith, each-counts))
 
 -- and then it gets not one more
-pub no-more : (before : List Event) × (happened gateway all ≡ judgedAt 120 (syn 1 2049) (Judged Blocked (pos 2) None) ∷ before)
+pub no-more : (before : List Event) × (happened gateway allowed ≡ judgedAt 120 (syn 1 2049) (Judged Blocked (pos 2) None) ∷ before)
 no-more = (_, happened-is allRows all-made)
 
 -- ---- blocked after exactly T
@@ -247,11 +247,12 @@ twoRows =
 pub blocked-after-T : (before : List Event)
     × (happened gateway exactly ≡ judgedAt 100 (syn 1 11211) (Judged Blocked (pos 2) None) ∷ before)
     × (F gateway machine before ≡ least gateway)
-unfolding history every firstBelow foremost holds rankAt rankOf bestNumber bestIn decided headerOf
+unfolding left stateAfter eventOf history every firstBelow foremost holds rankAt rankOf bestNumber bestIn decided headerOf
 blocked-after-T =
-    (happened gateway (callsOf twoRows), happened-exactly, fresh-is twoRows (same-tail exactly-made) refl)
+    (happened gateway asked, happened-exactly, fresh-is twoRows (same-tail exactly-made) refl)
   where
-    happened-exactly : happened gateway exactly ≡ judgedAt 100 (syn 1 11211) (Judged Blocked (pos 2) None) ∷ happened gateway (callsOf twoRows)
-    happened-exactly =
-        happened-is exactlyRows exactly-made
-        ∙ ap (λ (h : List Event). judgedAt 100 (syn 1 11211) (Judged Blocked (pos 2) None) ∷ h) (sym (happened-is twoRows (same-tail exactly-made)))
+    asked : List Call
+    asked = whyAt 100 (syn 1 11211) ∷ callsOf twoRows
+
+    happened-exactly : happened gateway exactly ≡ judgedAt 100 (syn 1 11211) (Judged Blocked (pos 2) None) ∷ happened gateway asked
+    happened-exactly = λ i. same-head (happened-is exactlyRows exactly-made) i ∷ happened gateway asked

@@ -7,7 +7,7 @@ use lib.IntN.{pos}
 use lib.ListN.{replicate}
 use Rattle.laws.specs.Signed.{minus}
 use Rattle.gateway.specs.Calls.{stateOf}
-use Rattle.history.specs.Runs.{Call, packetAt}
+use Rattle.history.specs.Runs.{Call, packetAt, whyAt}
 use Rattle.promises.specs.Demand3.{Gateway}
 
 -- cell 10.0.0.0/8, plant 192.168.0.0/16, and a cold start at second 100
@@ -37,8 +37,8 @@ abbrev pub machine : ℕ
 machine = 0x0A000001
 
 -- ---- all that is allowed (newest first, the verdicts beside)
-abbrev pub all : List Call
-all =
+abbrev pub allowed : List Call
+allowed =
     packetAt 120 (syn 1 2049) ∷  -- 6: it has had all
     packetAt 120 (syn 1 2049) ∷  -- 4
     packetAt 120 (syn 1 27017) ∷  -- 4: its count was forgotten (R)
@@ -60,5 +60,6 @@ all =
 abbrev pub exactly : List Call
 exactly =
     packetAt 100 (syn 1 11211) ∷  -- 6
+    whyAt 100 (syn 1 11211) ∷  -- the question why, asked first: it changes nothing
     packetAt 100 (syn 1 4840) ∷  -- 4
     packetAt 100 (syn 1 6379) ∷ []  -- 4
