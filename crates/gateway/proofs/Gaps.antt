@@ -20,7 +20,7 @@ use Rattle.refusals.proofs.Tests.{time-in-order}
 use Rattle.gateway.specs.declared.Reply.{Reply}
 use Rattle.gateway.specs.declared.Reply.the-variants.{Refused, Done}
 use Rattle.gateway.specs.Packets.{Outcome, directionIn, byDirection}
-use Rattle.gateway.specs.Calls.{State, After, orElse, unlessRefused, timeRefusalAt, passed, packetRefusal, accepted, judged}
+use Rattle.gateway.specs.Calls.{State, After, numberOr, unlessRefused, timeRefusalAt, passed, packetRefusal, accepted, judged}
 use Rattle.gateway.proofs.Refusals.{packet-kept}
 use Rattle.gateway.proofs.Jumps.{at, sizes-stay, clock-at, at-at, nextSecond}
 
@@ -63,7 +63,7 @@ module _ (rules : Settings → Rules) (settings : Settings) (cell plant : List �
   onward-alike : (between : ℕ) (s : State) → s .clock ≤ between → between ≤ time → Alike s (at rules settings between s)
   onward-alike between s h l =
       record {
-        refusal = ap (λ (n : ℕ). orElse n (headerRefusal bytes))
+        refusal = ap (λ (n : ℕ). numberOr n (headerRefusal bytes))
             (sizes-stay rules settings (λ records tags counts. earlyRefusal settings records tags counts cell plant (at rules settings between s .clock) time) between s
             ∙ same-early (length (s .tables .records)) (length (s .tables .tags)) (length (s .tables .counts)) (s .clock) (at rules settings between s .clock)
             (omega arith) (omega (arith, clock-at rules settings between s h)));
