@@ -87,6 +87,13 @@ struct spritgrommet_answer {
     uint32_t address; /* that address */
 };
 
+/* An entry of a side list: its number there, from 1, its address and its prefix length. */
+struct spritgrommet_entry {
+    size_t number;
+    uint32_t address;
+    uint8_t prefix;
+};
+
 /* Why a packet is dropped. A number that it does not have is 0: a refusal has nothing else, and verdicts 0 to 4 have nothing beside them.
  * Of a dropped packet, which is always one from the cell, it has what the packet meets at its second, and which of four facts are reported:
  * its cell address's count, the two marks of its connection record, and its kind. A fact is reported exactly if changing it alone, to some
@@ -103,14 +110,19 @@ struct spritgrommet_reason {
     bool by_plant_mark; /* the plant-to-cell mark is reported */
     bool by_cell_mark;  /* the cell-to-plant mark is reported */
     bool by_kind;       /* the kind is reported */
-    size_t cell_entry;  /* which entry of the cell list decided on the source address, from 1 */
-    size_t plant_entry; /* which entry of the plant list decided on the destination address, from 1 */
+    struct spritgrommet_entry cell_entry;  /* the entry of the cell list that decided on the source address */
+    struct spritgrommet_entry plant_entry; /* the entry of the plant list that decided on the destination address */
 };
 
 /* The entry of the side lists that decides on an address. */
 struct spritgrommet_winner {
     uint8_t side;  /* 1: it stands in the cell list. 2: in the plant list. 0: neither holds the address. */
     size_t number; /* which entry of that list, from 1; 0 where neither holds the address */
+};
+
+/* A tally: one total for each verdict, 0 to 6, that stops at 4,294,967,295. */
+struct spritgrommet_tally {
+    uint32_t totals[7];
 };
 
 /* Where the next record of a capture starts, and the capture's byte order. */
@@ -197,9 +209,8 @@ struct spritgrommet_winner spritgrommet_winner(const uint8_t *cell, size_t cell_
 uint32_t spritgrommet_encrypt(const uint32_t keys[8], uint32_t word);
 uint32_t spritgrommet_decrypt(const uint32_t keys[8], uint32_t word);
 
-/* Adds an answer's verdict to seven totals, one for each verdict, that stop at 4,294,967,295. A refusal adds nothing, nor does
- * a verdict over 6, which no call answers. */
-void spritgrommet_tally(uint32_t totals[7], struct spritgrommet_answer answer);
+/* Adds an answer's verdict to its total. A refusal adds nothing, nor does a verdict over 6, which no call answers. */
+void spritgrommet_tally(struct spritgrommet_tally *tally, struct spritgrommet_answer answer);
 
 /* Reads the header of a capture that lies in memory, refused by 7, and then its records in turn, refused by 8: where one was read, the next
  * starts at its `end`. At or past the last byte there is none left, and no refusal. */

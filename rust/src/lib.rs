@@ -125,10 +125,19 @@ pub struct Dropped {
     /// T.
     pub threshold: u16,
     pub reported: Facts,
-    /// Which entry of the cell list decided on its source address, from 1.
-    pub cell_entry: usize,
-    /// Which entry of the plant list decided on its destination address, from 1.
-    pub plant_entry: usize,
+    /// The entry of the cell list that decided on its source address.
+    pub cell_entry: Entry,
+    /// The entry of the plant list that decided on its destination address.
+    pub plant_entry: Entry,
+}
+
+/// An entry of a side list: its number there, from 1, its address and its prefix length.
+#[repr(C)]
+#[derive(Clone, Copy, Debug, PartialEq, Eq)]
+pub struct Entry {
+    pub number: usize,
+    pub address: u32,
+    pub prefix: u8,
 }
 
 /// Whether each of four facts is reported: exactly if changing it alone, to some value it may take, would have had the packet forwarded.
@@ -178,12 +187,21 @@ fn reason_of(plain: raw::PlainReason) -> Result<Reason, Refusal> {
     }))
 }
 
-/// Adds an answer's verdict to seven totals, one for each verdict, that stop at 4,294,967,295. A refusal adds nothing.
-pub fn tally(totals: &mut [u32; 7], answer: &Result<Answer, Refusal>) {
-    let Ok(answer) = answer else { return };
-    let plain = raw::PlainAnswer { refusal: 0, verdict: answer.verdict as u8, count: 0, replaced: 0, address: 0 };
-    // SAFETY: the pointer leads to seven totals, lent for writing.
-    unsafe { raw::spritgrommet_tally(totals.as_mut_ptr(), plain) }
+/// One total for each verdict, 0 to 6, that stops at 4,294,967,295.
+#[repr(C)]
+#[derive(Clone, Copy, Debug, Default, PartialEq, Eq)]
+pub struct Tally {
+    pub totals: [u32; 7],
+}
+
+impl Tally {
+    /// Adds an answer's verdict to its total. A refusal adds nothing.
+    pub fn add(&mut self, answer: &Result<Answer, Refusal>) {
+        let Ok(answer) = answer else { return };
+        let plain = raw::PlainAnswer { refusal: 0, verdict: answer.verdict as u8, count: 0, replaced: 0, address: 0 };
+        // SAFETY: the pointer leads to a tally, lent for writing.
+        unsafe { raw::spritgrommet_tally(self, plain) }
+    }
 }
 
 /// The address permutation E of a word.

@@ -2,7 +2,7 @@
 //! include/spritgrommet.h says the same for C, and what a caller has to keep to; it is public for who lends memory of his own. A slice
 //! crosses as its start and its length.
 
-use crate::Settings;
+use crate::{Entry, Settings, Tally};
 
 /// The answer to a packet. A number that it does not have is 0.
 #[repr(C)]
@@ -30,8 +30,8 @@ pub struct PlainReason {
     pub by_plant_mark: bool,
     pub by_cell_mark: bool,
     pub by_kind: bool,
-    pub cell_entry: usize,
-    pub plant_entry: usize,
+    pub cell_entry: Entry,
+    pub plant_entry: Entry,
 }
 
 /// The winning entry: 1 for the cell list, 2 for the plant list, 0 for neither; and its number there, from 1.
@@ -216,7 +216,7 @@ extern "C" {
     ) -> PlainWinner;
     pub fn spritgrommet_encrypt(keys: *const u32, word: u32) -> u32;
     pub fn spritgrommet_decrypt(keys: *const u32, word: u32) -> u32;
-    pub fn spritgrommet_tally(totals: *mut u32, answer: PlainAnswer);
+    pub fn spritgrommet_tally(tally: *mut Tally, answer: PlainAnswer);
     pub fn spritgrommet_open(bytes: *const u8, length: usize) -> PlainOpening;
     pub fn spritgrommet_next(bytes: *const u8, length: usize, cursor: Cursor) -> PlainNext;
     pub fn spritgrommet_put_header(room: *mut u8, room_length: usize, at: usize) -> PlainWritten;

@@ -21,10 +21,11 @@ use Rattle.gateway.proofs.Refusals.{Numbered, packet-numbered}
 use Rattle.frames.specs.declared.Inside.{Inside}
 use Rattle.frames.specs.declared.Inside.the-variants.{Short, Packet, Other}
 use Rattle.frames.specs.Frames.{carried, insideOf, byInside, frameJudged}
+use Rattle.tally.specs.declared.Tally.{Tally}
 use Rattle.tally.specs.Tally.{tallied, verdictNumbered}
 use Rattle.tally.proofs.Totals.{is-numbered}
 use Rattle.embed.specs.declared.plain.PlainAnswer.{PlainAnswer}
-use Rattle.embed.specs.Plain.{plainAnswer, byRefusal, verdictIn, totalsAfter}
+use Rattle.embed.specs.Plain.{plainAnswer, byRefusal, verdictIn}
 
 -- ---- the way back
 verdictBack : ℕ → Verdict
@@ -96,11 +97,11 @@ module _ (rules : Settings → Rules) (settings : Settings) (cell plant : List �
   unfolding frameJudged
   of-frames frame = comes-back _ (frame-numbered (insideOf frame) _ (packet-numbered settings time before rules cell plant (carried frame)))
 
-module _ (totals : List ℕ) (verdict : ℕ) where
-  pub refused-adds-none : (refusal : ℕ) → (refusal ≡ 0 → ⊥) → totalsAfter totals (byRefusal refusal verdict) ≡ totals
+module _ (tally : Tally) (verdict : ℕ) where
+  pub refused-adds-none : (refusal : ℕ) → (refusal ≡ 0 → ⊥) → tallied tally (byRefusal refusal verdict) ≡ tally
   unfolding tallied
   refused-adds-none zero ne = absurd (ne refl)
   refused-adds-none (suc n) ne = refl
 
-  pub told : (refusal : ℕ) → refusal ≡ 0 → byRefusal refusal verdict ≡ verdictNumbered verdict
-  told refusal e = ap (λ (n : ℕ). byRefusal n verdict) e
+  pub else-adds-verdict : (refusal : ℕ) → refusal ≡ 0 → tallied tally (byRefusal refusal verdict) ≡ tallied tally (verdictNumbered verdict)
+  else-adds-verdict refusal e = ap (λ (n : ℕ). tallied tally (byRefusal n verdict)) e

@@ -21,7 +21,7 @@ use Rattle.capture.specs.declared.Written.{Written}
 use Rattle.capture.specs.declared.Written.the-variants as written
 use Rattle.capture.specs.Writing.{Put}
 use Rattle.gateway.specs.Calls.{After}
-use Rattle.tally.specs.Tally.{tallied, verdictNumbered}
+use Rattle.tally.specs.Tally.{verdictNumbered}
 use Rattle.embed.specs.declared.plain.PlainAnswer.{PlainAnswer}
 use Rattle.embed.specs.declared.plain.PlainWinner.{PlainWinner}
 use Rattle.embed.specs.declared.plain.PlainOpening.{PlainOpening}
@@ -52,9 +52,6 @@ byRefusal (suc n) verdict = none
 
 abbrev pub verdictIn : PlainAnswer → Option ℕ
 verdictIn answer = byRefusal (answer .refusal) (answer .verdict)
-
-abbrev pub totalsAfter : List ℕ → Option ℕ → List ℕ
-totalsAfter totals verdict = tallied (record { totals = totals }) verdict .totals
 
 -- ---- the winning entry
 abbrev pub sideNumber : Side → ℕ

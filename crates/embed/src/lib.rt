@@ -11,7 +11,8 @@ ghost use Rattle.capture.specs.Format.{contentOf};
 ghost use Rattle.capture.specs.Writing.{headerPut, recordPut};
 ghost use Rattle.gateway.specs.Calls.{afterOf, stateOf, refusalIn, started, passed, judged};
 ghost use Rattle.frames.specs.Frames.{frameJudged};
-ghost use Rattle.embed.specs.Plain.{plainly, plainAnswer, plainWinner, plainOpening, plainNext, plainPutOf, plainPut, verdictIn, totalsAfter};
+ghost use Rattle.tally.specs.Tally.{tallied};
+ghost use Rattle.embed.specs.Plain.{plainly, plainAnswer, plainWinner, plainOpening, plainNext, plainPutOf, plainPut, verdictIn};
 
 pub mod plain;
 
@@ -140,19 +141,12 @@ pub extern "C" fn spritgrommet_decrypt(keys: &[u32; 8], word: u32) -> u32
     permute::decrypt(keys, word)
 }
 
-// Adds an answer's verdict to the seven totals that are lent. A refusal adds nothing.
+// Adds an answer's verdict to the tally that is lent. A refusal adds nothing.
 #[no_mangle]
-pub extern "C" fn spritgrommet_tally(totals: &mut [u32; 7], answer: PlainAnswer)
-    ensures { λ _. ⌜ now (totals .exit) ≡ totalsAfter (now (totals .entry)) (verdictIn answer) ⌝ }
+pub extern "C" fn spritgrommet_tally(tally: &mut Tally, answer: PlainAnswer)
+    ensures { λ _. ⌜ now (tally .exit) ≡ tallied (now (tally .entry)) (verdictIn answer) ⌝ }
 {
-    if answer.refusal != 0 {
-        return;
-    }
-    let before = *totals;
-    let tally = Tally { totals: before };
-    let after = tally.with_verdict(answer.verdict);
-    let grown = after.totals;
-    *totals = grown;
+    *tally = plain::tally_with(*tally, answer);
 }
 
 // Reads a capture's header. The answer is refusal 7, or where the first record starts.

@@ -1,7 +1,8 @@
 // Answers as plain numbers, laid out as C does. A number that an answer does not have is 0.
 ghost use mathlib.Core.Path.{_≡_};
 ghost use Rattle.gateway.specs.Calls.{refusalIn};
-ghost use Rattle.embed.specs.Plain.{sideNumber, plainAnswer, plainJudged, plainWinner, plainOpening, noRecord, plainNext, plainWritten};
+ghost use Rattle.tally.specs.Tally.{tallied};
+ghost use Rattle.embed.specs.Plain.{sideNumber, plainAnswer, plainJudged, plainWinner, plainOpening, noRecord, plainNext, plainWritten, verdictIn};
 use capture::Cursor;
 use capture::Opened;
 use capture::Reading;
@@ -12,6 +13,7 @@ use rulings::answers::Answer;
 use rulings::answers::Replacement;
 use sides::Side;
 use sides::Winning;
+use tally::Tally;
 
 // The answer to a packet: the number of its refusal, or 0; the verdict, 0 to 6; the cell address's count after it; 1 where an address lost
 // its entry, and that address.
@@ -111,6 +113,16 @@ pub fn of_answer(answer: Answer) -> PlainAnswer
             replaced,
         } => of_judged(verdicts::number(verdict), count, replaced),
     }
+}
+
+// The tally with an answer's verdict added to its total. A refusal adds nothing, nor does a verdict over 6.
+pub fn tally_with(tally: Tally, answer: PlainAnswer) -> Tally
+    ensures { λ r. ⌜ r ≡ tallied tally (verdictIn answer) ⌝ }
+{
+    if answer.refusal != 0 {
+        return tally;
+    }
+    tally.with_verdict(answer.verdict)
 }
 
 // What writing into a room answers, in plain numbers: the refusal, or 0 and the place after what was written.

@@ -4,11 +4,15 @@ use mathlib.Core.Bool.{false}
 use Prim.Native.Nat.{ℕ}
 use lib.IntN.{pos}
 use Rattle.packet.specs.Kinds.{kindNumber}
+use Rattle.sides.specs.declared.Entry.{Entry}
 use Rattle.verdicts.specs.Verdicts.{numberOf}
 use Rattle.reasons.specs.declared.Drop.{Drop}
 use Rattle.reasons.specs.declared.Explanation.{Explanation}
 use Rattle.reasons.specs.declared.Explanation.the-variants as why
 use Rattle.embed_why.specs.declared.plain.PlainReason.{PlainReason}
+
+abbrev pub noEntry : Entry
+noEntry = record { number = 0; address = 0; prefix = 0 }
 
 -- "Verdicts 0 to 4 get the verdict alone", and a refusal its number alone
 abbrev pub verdictAlone : ℕ → ℕ → PlainReason
@@ -25,8 +29,8 @@ verdictAlone refusal verdict =
       «by_plant_mark» = false;
       «by_cell_mark» = false;
       «by_kind» = false;
-      «cell_entry» = 0;
-      «plant_entry» = 0;
+      «cell_entry» = noEntry;
+      «plant_entry» = noEntry;
     }
 
 abbrev pub plainDrop : Drop → PlainReason

@@ -14,10 +14,10 @@ use settings::Settings;
 
 // Why a packet, from its IPv4 header on, that comes at a time is dropped. Tables and clock are only read.
 #[no_mangle]
-pub extern "C" fn spritgrommet_why(
+pub extern "C" fn spritgrommet_why<'a>(
     set: Settings,
-    cell: &[u8],
-    plant: &[u8],
+    cell: &'a [u8],
+    plant: &'a [u8],
     records: &[u8],
     tags: &[u32],
     counts: &[i16],
@@ -34,10 +34,10 @@ pub extern "C" fn spritgrommet_why(
 
 // Why what an Ethernet frame that comes at a time carries is dropped. Tables and clock are only read.
 #[no_mangle]
-pub extern "C" fn spritgrommet_why_frame(
+pub extern "C" fn spritgrommet_why_frame<'a>(
     set: Settings,
-    cell: &[u8],
-    plant: &[u8],
+    cell: &'a [u8],
+    plant: &'a [u8],
     records: &[u8],
     tags: &[u32],
     counts: &[i16],

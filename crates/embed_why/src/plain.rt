@@ -5,10 +5,11 @@ ghost use Rattle.embed_why.specs.Plain.{verdictAlone, plainDrop, plainRe
 use packet::kinds::Kind;
 use reasons::Drop;
 use reasons::Explanation;
+use sides::Entry;
 
 // Why a packet was dropped: the number of its refusal, or 0; the verdict, 0 to 6, which is all of one that is not dropped; its kind, 0 UDP, 1
-// opening, 2 SYN+ACK, 3 closing, 4 plain; the marks and the count that it met, and T; which of the four facts are reported; and the numbers,
-// from 1, of the entries that decided on its source, in the cell list, and on its destination, in the plant list.
+// opening, 2 SYN+ACK, 3 closing, 4 plain; the marks and the count that it met, and T; which of the four facts are reported; and the entries
+// that decided on its source, in the cell list, and on its destination, in the plant list.
 #[repr(C)]
 pub struct PlainReason {
     pub refusal: u8,
@@ -22,8 +23,8 @@ pub struct PlainReason {
     pub by_plant_mark: bool,
     pub by_cell_mark: bool,
     pub by_kind: bool,
-    pub cell_entry: usize,
-    pub plant_entry: usize,
+    pub cell_entry: Entry,
+    pub plant_entry: Entry,
 }
 
 // A kind's number.
@@ -43,6 +44,11 @@ fn kind_number(kind: Kind) -> u8
 fn verdict_alone(refusal: u8, verdict: u8) -> PlainReason
     ensures { λ r. ⌜ r ≡ verdictAlone refusal verdict ⌝ }
 {
+    let none = Entry {
+        number: 0,
+        address: 0,
+        prefix: 0,
+    };
     PlainReason {
         refusal,
         verdict,
@@ -55,8 +61,8 @@ fn verdict_alone(refusal: u8, verdict: u8) -> PlainReason
         by_plant_mark: false,
         by_cell_mark: false,
         by_kind: false,
-        cell_entry: 0,
-        plant_entry: 0,
+        cell_entry: none,
+        plant_entry: none,
     }
 }
 
@@ -70,6 +76,8 @@ fn of_drop(drop: Drop) -> PlainReason
     let kind = transport.kind;
     let marks = drop.marks;
     let reported = drop.reported;
+    let cell_entry = drop.cell_entry;
+    let plant_entry = drop.plant_entry;
     PlainReason {
         refusal: 0,
         verdict: verdicts::number(verdict),
@@ -82,8 +90,8 @@ fn of_drop(drop: Drop) -> PlainReason
         by_plant_mark: reported.plant_mark,
         by_cell_mark: reported.cell_mark,
         by_kind: reported.kind,
-        cell_entry: drop.cell_entry,
-        plant_entry: drop.plant_entry,
+        cell_entry,
+        plant_entry,
     }
 }
 

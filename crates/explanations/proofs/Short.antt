@@ -12,6 +12,8 @@ use lib.IntN.{ℤ, natAbs}
 use lib.ListN.{length, length-append}
 use Rattle.packet.specs.declared.kinds.Kind.{Kind}
 use Rattle.packet.specs.declared.kinds.Kind.the-variants.{Udp, Opening, SynAck, Closing, Plain}
+use Rattle.sides.specs.declared.Entry.{Entry}
+use Rattle.sides.proofs.Winners.{EntrySized}
 use Rattle.verdicts.specs.declared.Verdict.{Verdict}
 use Rattle.verdicts.specs.declared.Verdict.the-variants.{Uncounted, CreditOfOne, CreditOfTwo, FreshContact, Hygiene, Blocked}
 use Rattle.verdicts.specs.Verdicts.{numberOf}
@@ -22,9 +24,9 @@ use Rattle.reasons.specs.declared.Explanation.{Explanation}
 use Rattle.reasons.specs.declared.Explanation.the-variants as why
 use Rattle.lines.specs.Letters.{text}
 use Rattle.lines.specs.Text.{decimal, signed, dotted}
-use Rattle.lines.proofs.Whole.{signed-short, dotted-short, one-digit, long-number}
+use Rattle.lines.proofs.Whole.{signed-short, byte-short, dotted-short, one-digit, long-number}
 use Rattle.explanations.specs.declared.Report.{Report}
-use Rattle.explanations.specs.Values.{kindWord, kindWords, isBlocking, kindsThatPass, portWord, portWords, hasPorts, valueOf, letterText, isMark, filled}
+use Rattle.explanations.specs.Values.{kindWord, kindWords, isBlocking, kindsThatPass, portWord, portWords, hasPorts, entryText, valueOf, letterText, isMark, filled}
 use Rattle.explanations.specs.Explanations.{said, ofFacts, firstLine, whoAndWhom, byPlantMark, situation, waysThrough, dropText, forwardedText, notOursText, refusedWords, refusedText, explanationText, isTold, askedText}
 
 -- ---- what the types of an explanation's parts say of them
@@ -36,8 +38,8 @@ pub record DropSized (drop : Drop) : Type 0 where
   pub protocol : drop .header .protocol < 2 ^ 8
   pub source-port : drop .header .transport .«source_port» < 2 ^ 16
   pub destination-port : drop .header .transport .«destination_port» < 2 ^ 16
-  pub cell-entry : drop .«cell_entry» < 2 ^ 64
-  pub plant-entry : drop .«plant_entry» < 2 ^ 64
+  pub cell-entry : EntrySized (drop .«cell_entry»)
+  pub plant-entry : EntrySized (drop .«plant_entry»)
 
 abbrev pub ExplanationSized : Explanation → Type 0
 ExplanationSized (why.Refused refusal) = refusal < 2 ^ 8
@@ -110,6 +112,18 @@ port-words-short true port h =
     record { few = omega (arith, long-number port (omega (arith, h)), length-append (text " port ") (decimal port)) }
 port-words-short false port h = nothing-short
 
+-- entries of side lists
+entry-short : (entry : Entry) → EntrySized entry → Few (entryText entry)
+entry-short entry sized =
+    record {
+      few = omega (
+        arith,
+        dotted-short (entry .address) (sized .address),
+        byte-short (entry .prefix) (sized .prefix),
+        length-append (dotted (entry .address)) (code "/" ∷ decimal (entry .prefix)),
+      );
+    }
+
 module _ (report : Report) (number : report .number < 2 ^ 64) (seconds : report .seconds < 2 ^ 32) (sized : DropSized (report .drop)) where
   value-short : (letter : ℕ) → Few (valueOf report letter)
   unfolding valueOf
@@ -128,10 +142,12 @@ module _ (report : Report) (number : report .number < 2 ^ 64) (seconds : report 
       (or-else (eqb letter (code "i")) (decimal (report .drop .header .protocol)) (decimal-short (report .drop .header .protocol) (omega (arith, sized .protocol)))
       (or-else (eqb letter (code "k")) (kindWord (report .drop .header .transport .kind)) (word-short (report .drop .header .transport .kind))
       (or-else (eqb letter (code "K")) (kindWords (report .drop .header .transport .kind)) (words-short (report .drop .header .transport .kind))
-      (or-else (eqb letter (code "e")) (decimal (report .drop .«cell_entry»)) (decimal-short (report .drop .«cell_entry») (sized .cell-entry))
-      (or-else (eqb letter (code "f")) (decimal (report .drop .«plant_entry»)) (decimal-short (report .drop .«plant_entry») (sized .plant-entry))
+      (or-else (eqb letter (code "e")) (decimal (report .drop .«cell_entry» .number)) (decimal-short (report .drop .«cell_entry» .number) (sized .cell-entry .number))
+      (or-else (eqb letter (code "f")) (decimal (report .drop .«plant_entry» .number)) (decimal-short (report .drop .«plant_entry» .number) (sized .plant-entry .number))
+      (or-else (eqb letter (code "E")) (entryText (report .drop .«cell_entry»)) (entry-short (report .drop .«cell_entry») (sized .cell-entry))
+      (or-else (eqb letter (code "F")) (entryText (report .drop .«plant_entry»)) (entry-short (report .drop .«plant_entry») (sized .plant-entry))
       (or-else (eqb letter (code "w")) (kindsThatPass (isBlocking (report .drop .verdict))) (kinds-short (isBlocking (report .drop .verdict)))
-      nothing-short))))))))))))))))
+      nothing-short))))))))))))))))))
 
   -- ---- so a text has at most 33 bytes for each value, and one for each other byte but the marks
   abbrev width : Bool → ℕ → ℕ
@@ -199,12 +215,12 @@ module _ (report : Report) (number : report .number < 2 ^ 64) (seconds : report 
         length-append (ofFacts report (text " count") (text " plant-mark") (text " cell-mark") (text " kind")) (text "\n"),
       )
 
-  who-short : length (whoAndWhom report) ≤ 388
+  who-short : length (whoAndWhom report) ≤ 430
   unfolding text widths
   who-short =
       let who = said-short "  %a%P sent %K to %b%Q at second %s.\n" 223 refl in
-      let lists = said-short "  It is ours by entry %e of the cell list, 10.0.0.0/8, and entry %f of the plant list, 192.168.0.0/16.\n" 165 refl in
-      omega (arith, who, lists, length-append (said report "  %a%P sent %K to %b%Q at second %s.\n") (said report "  It is ours by entry %e of the cell list, 10.0.0.0/8, and entry %f of the plant list, 192.168.0.0/16.\n"))
+      let lists = said-short "  It is ours by entry %e of the cell list, %E, and entry %f of the plant list, %F.\n" 207 refl in
+      omega (arith, who, lists, length-append (said report "  %a%P sent %K to %b%Q at second %s.\n") (said report "  It is ours by entry %e of the cell list, %E, and entry %f of the plant list, %F.\n"))
 
   mark-short : (mark : Bool) → length (byPlantMark report mark) ≤ 123
   unfolding text widths
@@ -236,7 +252,7 @@ module _ (report : Report) (number : report .number < 2 ^ 64) (seconds : report 
       let kind = text "  - the kind: %w\n" in
       omega (arith, ways, facts-short count plant cell kind, length-append (said report "  Any one of these alone would have let it through:\n") (ofFacts report count plant cell kind))
 
-  drop-short : length (dropText report) ≤ 1512
+  drop-short : length (dropText report) ≤ 1554
   drop-short =
       let blocking = isBlocking (report .drop .verdict) in
       omega (
@@ -268,16 +284,16 @@ refused-short number =
     (or-else (eqb number 6) _ (record { few = omega arith })
     (record { few = omega arith })))
 
--- what is told of a record has room in 1,512 bytes
+-- what is told of a record has room in 1,554 bytes
 pub asked-short : (wanted number seconds : ℕ) (asked : Asked) → number < 2 ^ 64 → seconds < 2 ^ 32 → AskedSized asked
-    → length (askedText wanted number seconds asked) ≤ 1512
+    → length (askedText wanted number seconds asked) ≤ 1554
 unfolding text
 asked-short wanted number seconds Nothing n s sized = omega arith
 asked-short wanted number seconds (Why explanation) n s sized =
     or-else (isTold wanted number explanation) (explanationText number seconds explanation) {y = []}
     (record { few = go explanation sized }) (record { few = omega arith }) .few
   where
-    go : (e : Explanation) → ExplanationSized e → length (explanationText number seconds e) ≤ 1512
+    go : (e : Explanation) → ExplanationSized e → length (explanationText number seconds e) ≤ 1554
     go (why.Refused refusal) small =
         omega (
           arith,

@@ -39,7 +39,7 @@ firstLine report =
 abbrev pub whoAndWhom : Report → List ℕ
 whoAndWhom report =
     said report "  %a%P sent %K to %b%Q at second %s.\n"
-    ++ said report "  It is ours by entry %e of the cell list, 10.0.0.0/8, and entry %f of the plant list, 192.168.0.0/16.\n"
+    ++ said report "  It is ours by entry %e of the cell list, %E, and entry %f of the plant list, %F.\n"
 
 -- the verdict, and the count against T
 abbrev pub byPlantMark : Report → Bool → List ℕ

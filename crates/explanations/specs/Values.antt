@@ -9,6 +9,7 @@ use Rattle.packet.specs.declared.Header.{Header}
 use Rattle.packet.specs.declared.kinds.Kind.{Kind}
 use Rattle.packet.specs.declared.kinds.Kind.the-variants.{Udp, Opening, SynAck, Closing, Plain}
 use Rattle.packet.specs.Kinds.{ported}
+use Rattle.sides.specs.declared.Entry.{Entry}
 use Rattle.verdicts.specs.declared.Verdict.{Verdict}
 use Rattle.verdicts.specs.declared.Verdict.the-variants.{Uncounted, CreditOfOne, CreditOfTwo, FreshContact, Hygiene, Blocked}
 use Rattle.verdicts.specs.Verdicts.{numberOf}
@@ -57,6 +58,10 @@ portWords false port = []
 abbrev pub hasPorts : Header → Bool
 hasPorts h = ported (h .protocol) (h .later)
 
+-- an entry of a side list: its address "in dotted form", and its prefix length
+abbrev pub entryText : Entry → List ℕ
+entryText entry = dotted (entry .address) ++ (code "/" ∷ decimal (entry .prefix))
+
 -- what a letter stands for; any other stands for nothing
 unfoldable pub valueOf : Report → ℕ → List ℕ
 valueOf report letter =
@@ -74,10 +79,12 @@ valueOf report letter =
     (cond (eqb letter (code "i")) (decimal (report .drop .header .protocol))
     (cond (eqb letter (code "k")) (kindWord (report .drop .header .transport .kind))
     (cond (eqb letter (code "K")) (kindWords (report .drop .header .transport .kind))
-    (cond (eqb letter (code "e")) (decimal (report .drop .«cell_entry»))
-    (cond (eqb letter (code "f")) (decimal (report .drop .«plant_entry»))
+    (cond (eqb letter (code "e")) (decimal (report .drop .«cell_entry» .number))
+    (cond (eqb letter (code "f")) (decimal (report .drop .«plant_entry» .number))
+    (cond (eqb letter (code "E")) (entryText (report .drop .«cell_entry»))
+    (cond (eqb letter (code "F")) (entryText (report .drop .«plant_entry»))
     (cond (eqb letter (code "w")) (kindsThatPass (isBlocking (report .drop .verdict)))
-    []))))))))))))))))
+    []))))))))))))))))))
 
 -- a byte of a text: behind "%" it is a letter that stands for a value, "%" itself is left out, and any other is put as it is
 abbrev pub letterText : Report → Bool → ℕ → List ℕ

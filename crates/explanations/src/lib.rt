@@ -4,13 +4,14 @@ ghost use mathlib.Core.Path.{_≡_};
 ghost use mathlib.Core.Bool.{cond, false};
 ghost use mathlib.Core.List.{[]};
 ghost use Rattle.lines.specs.Room.{roomOf, put};
-ghost use Rattle.explanations.specs.Values.{kindWord, kindWords, isBlocking, kindsThatPass, portWord, portWords, hasPorts, valueOf, letterText, filled};
+ghost use Rattle.explanations.specs.Values.{kindWord, kindWords, isBlocking, kindsThatPass, portWord, portWords, hasPorts, entryText, valueOf, letterText, filled};
 ghost use Rattle.explanations.specs.Explanations.{ofFacts, firstLine, whoAndWhom, byPlantMark, situation, waysThrough, dropText, forwardedText, refusedWords, refusedText, explanationText, isDrop, isTold, askedText};
 use packet::Header;
 use packet::kinds::Kind;
 use reasons::Asked;
 use reasons::Drop;
 use reasons::Explanation;
+use sides::Entry;
 use verdicts::Verdict;
 
 // What is told of a packet that was dropped: its record's number and second, and why.
@@ -98,6 +99,15 @@ fn put_port_words(room: &mut [u8], at: usize, has_ports: bool, port: u16) -> usi
     at
 }
 
+// An entry of a side list: its address in dotted form, and its prefix length behind a slash.
+fn put_entry(room: &mut [u8], at: usize, entry: Entry) -> usize
+    ensures { λ r. ⌜ roomOf r (now (room .exit)) ≡ put (entryText entry) (roomOf at (now (room .entry))) ⌝ }
+{
+    let next = lines::put_dotted(room, at, entry.address);
+    let next = lines::put_byte(room, next, b'/');
+    lines::put_decimal(room, next, entry.prefix as u64)
+}
+
 // What a letter stands for.
 fn put_value(room: &mut [u8], at: usize, letter: u8, report: Report) -> usize
     ensures { λ r. ⌜ roomOf r (now (room .exit)) ≡ put (valueOf report letter) (roomOf at (now (room .entry))) ⌝ }
@@ -107,6 +117,8 @@ fn put_value(room: &mut [u8], at: usize, letter: u8, report: Report) -> usize
     let header = drop.header;
     let transport = header.transport;
     let kind = transport.kind;
+    let cell_entry = drop.cell_entry;
+    let plant_entry = drop.plant_entry;
     match letter {
         b'n' => lines::put_decimal(room, at, report.number),
         b'v' => lines::put_decimal(room, at, verdicts::number(verdict) as u64),
@@ -122,8 +134,10 @@ fn put_value(room: &mut [u8], at: usize, letter: u8, report: Report) -> usize
         b'i' => lines::put_decimal(room, at, header.protocol as u64),
         b'k' => put_kind_word(room, at, kind),
         b'K' => put_kind_words(room, at, kind),
-        b'e' => lines::put_decimal(room, at, drop.cell_entry as u64),
-        b'f' => lines::put_decimal(room, at, drop.plant_entry as u64),
+        b'e' => lines::put_decimal(room, at, cell_entry.number as u64),
+        b'f' => lines::put_decimal(room, at, plant_entry.number as u64),
+        b'E' => put_entry(room, at, cell_entry),
+        b'F' => put_entry(room, at, plant_entry),
         b'w' => put_kinds(room, at, verdict),
         _ => at,
     }
@@ -214,7 +228,7 @@ fn put_who_and_whom(room: &mut [u8], at: usize, report: Report) -> usize
     put_filled(
         room,
         next,
-        b"  It is ours by entry %e of the cell list, 10.0.0.0/8, and entry %f of the plant list, 192.168.0.0/16.\n",
+        b"  It is ours by entry %e of the cell list, %E, and entry %f of the plant list, %F.\n",
         report,
     )
 }

@@ -57,10 +57,10 @@ pub fn judge(
 
 // Why the packet of a frame that comes at a time is dropped. Answers refusal 5 for a frame that is too short, that it is not ours for one that
 // carries something else than IPv4, and else what the gateway answers.
-pub fn why(
+pub fn why<'a>(
     set: Settings,
-    cell: &[u8],
-    plant: &[u8],
+    cell: &'a [u8],
+    plant: &'a [u8],
     records: &[u8],
     tags: &[u32],
     counts: &[i16],

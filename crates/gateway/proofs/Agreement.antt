@@ -1,7 +1,8 @@
 -- What is told of a packet and what the packet gets agree, and what is told of a drop holds of it.
 -- Assumes nothing.
-use mathlib.Core.Bool.{Bool, true, false, cond}
+use mathlib.Core.Bool.{Bool, true, false, not, cond}
 use mathlib.Core.List.{List}
+use mathlib.Core.Option.{Option, none, some, Option·none-ne-some}
 use mathlib.Core.Path.{_≡_, refl, sym, ap, _∙_}
 use Prim.Native.Nat.{ℕ, zero, suc}
 use lib.IntN.{ℤ}
@@ -13,8 +14,8 @@ use Rattle.packet.specs.Header.{headerOf}
 use Rattle.packet.specs.declared.kinds.Kind.{Kind}
 use Rattle.sides.specs.declared.Side.{Side}
 use Rattle.sides.specs.declared.Side.the-variants.{Cell, Plant, Neither}
-use Rattle.sides.specs.Lists.{sideOf, winningOf, directionOf}
-use Rattle.sides.proofs.Winners.{same-side}
+use Rattle.sides.specs.Lists.{sideOf, winnerOf, winningOf, directionOf}
+use Rattle.sides.proofs.Winners.{StandsIn, in-cell, in-plant, same-side}
 use Rattle.sides.specs.declared.Direction.{Direction}
 use Rattle.sides.specs.declared.Direction.the-variants.{FromCell, FromPlant, NotOurs}
 use Rattle.records.specs.declared.Marks.{Marks}
@@ -22,18 +23,20 @@ use Rattle.records.specs.Records.{plantSeen, cellSeen}
 use Rattle.tables.specs.Tables.{Tables}
 use Rattle.entries.specs.Entries.{Written, written, writtenOf}
 use Rattle.entries.specs.declared.Replaced.the-variants.{Nothing}
-use Rattle.verdicts.specs.declared.Verdict.the-variants.{Uncounted, CreditOfTwo}
-use Rattle.verdicts.specs.Verdicts.{isForwarded, isClosing, fromThePlant, verdictOf}
+use Rattle.verdicts.specs.declared.Verdict.{Verdict}
+use Rattle.verdicts.specs.declared.Verdict.the-variants.{Uncounted, CreditOfOne, CreditOfTwo, FreshContact, Hygiene, Blocked}
+use Rattle.verdicts.specs.Verdicts.{numberOf, isForwarded, isClosing, fromThePlant, verdictOf}
 use Rattle.reasons.specs.declared.Drop.{Drop}
 use Rattle.reasons.specs.Reasons.{Facts, factsOf, verdictOn, reportedOn}
+use Rattle.reasons.specs.Explanations.{refusalExplained, verdictExplained, dropExplained, countExplained, isDropNumber}
 use Rattle.reasons.proofs.Reasons.{oneOf, at-least-one}
 use Rattle.reasons.specs.declared.Explanation.{Explanation}
 use Rattle.reasons.specs.declared.Explanation.the-variants as why
 use Rattle.rulings.specs.declared.Ruling.{Ruling}
 use Rattle.rulings.specs.declared.answers.Answer.{Answer}
 use Rattle.rulings.specs.declared.answers.Answer.the-variants as answer
-use Rattle.rulings.specs.declared.answers.Replacement.{Replacement}
 use Rattle.rulings.specs.declared.answers.Replacement.the-variants.{None}
+use Rattle.rulings.specs.Answers.{refusalTold, verdictTold, countTold, addressTold, replacedTold}
 use Rattle.rulings.specs.Rules.{document01}
 use Rattle.rulings.specs.Rulings.{verdictBy, rulingOf}
 use Rattle.rulings.proofs.Slips.{drop-writes-nothing}
@@ -43,13 +46,24 @@ use Rattle.gateway.specs.Packets.{replacementOf, entered, spotOf, ruling
 use Rattle.gateway.specs.Calls.{State, After, unlessRefused, onward, packetRefusal, judged}
 use Rattle.gateway.specs.Why.{metIn, dropOf, whyOurs, whyByDirection, unlessRefusedBy, whyOf}
 
--- what is told agrees with an answer: the same refusal; not ours as well; the same verdict; and where it is dropped the same verdict and the
--- same count, and no address was replaced
-abbrev pub Agrees : Explanation → Answer → Type 0
-Agrees (why.Refused number) given = given ≡ answer.Refused number
-Agrees why.NotOurs given = given ≡ answer.NotOurs
-Agrees (why.Forwarded verdict) given = (count : ℤ) × ((replaced : Replacement) × (given ≡ answer.Judged verdict count replaced))
-Agrees (why.Dropped drop) given = given ≡ answer.Judged (drop .verdict) (drop .count) None
+-- what is told agrees with an answer, in document 01's numbers: the same refusal, the same verdict, and where a count is told, as it is of a
+-- packet that is dropped, the same count, and no address was replaced
+pub record Agrees (told : Explanation) (given : Answer) : Type 0 where
+  pub refusal : refusalExplained told ≡ refusalTold given
+  pub verdict : verdictExplained told ≡ verdictTold given
+  pub count : (count : ℤ) → countExplained told ≡ some count → countTold given ≡ some count
+  pub replaced : (count : ℤ) → countExplained told ≡ some count → replacedTold given ≡ none
+
+-- where no count is told the numbers say it all
+numbers-agree : {told : Explanation} {given : Answer} → refusalExplained told ≡ refusalTold given → verdictExplained told ≡ verdictTold given
+    → countExplained told ≡ none → Agrees told given
+numbers-agree r v n =
+    record {
+      refusal = r;
+      verdict = v;
+      count = λ count e. absurd (Option·none-ne-some count (sym n ∙ e));
+      replaced = λ count e. absurd (Option·none-ne-some count (sym n ∙ e));
+    }
 
 module _ (settings : Settings) (cell plant : List ℕ) where
   module _ (h : Header) (fromPlant : Bool) (spot : Spot) (tables : Tables) where
@@ -66,10 +80,15 @@ module _ (settings : Settings) (cell plant : List ℕ) where
         (why.Dropped (dropOf (document01 settings) cell plant h (verdictBy (document01 settings) h fromPlant (met .byte) (met .count)) met)))
         (settled (settings .keys) spot ruling tables .answer)
     unfolding rulingOf
-    by-whether true e = (ruling .count, (_, refl))
+    by-whether true e = numbers-agree refl refl refl
     by-whether false e =
         let nothing = drop-writes-nothing settings h fromPlant (met .byte) (met .count) e in
-        λ i. answer.Judged (ruling .verdict) (nothing .2 i) (replaced-by (nothing .1) i)
+        record {
+          refusal = refl;
+          verdict = refl;
+          count = λ count told. ap some (nothing .2) ∙ told;
+          replaced = λ count told. ap addressTold (replaced-by (nothing .1));
+        }
       where
         replaced-by : ruling .writes ≡ false
             → replacementOf (settings .keys) (spot .lines) (spot .place .line) (entered (spot .place) ruling (tables .tags) (tables .counts) .replaced) ≡ None
@@ -88,12 +107,12 @@ module _ (settings : Settings) (cell plant : List ℕ) where
   unfolding whyByDirection byDirection
   directions-agree h FromCell tables = ours-agree h false tables
   directions-agree h FromPlant tables = ours-agree h true tables
-  directions-agree h NotOurs tables = refl
+  directions-agree h NotOurs tables = numbers-agree refl refl refl
 
   refusals-agree : (number : ℕ) (told : Explanation) (before : State) (after : After Answer) → Agrees told (after .answer)
       → Agrees (unlessRefusedBy number told) (unlessRefused answer.Refused number before after .answer)
   refusals-agree zero told before after agree = agree
-  refusals-agree (suc n) told before after agree = refl
+  refusals-agree (suc n) told before after agree = numbers-agree refl refl refl
 
   -- for every input: "It is refused exactly as the packet would be", and what it tells is what `judge` would answer
   pub agrees : (time : ℕ) (bytes : List ℕ) (before : State)
@@ -104,6 +123,10 @@ module _ (settings : Settings) (cell plant : List ℕ) where
       (directions-agree (headerOf bytes) (directionIn cell plant (headerOf bytes)) (onward 1 settings time before .tables))
 
 -- ---- what is told of a drop
+abbrev pub isSome : {A : Type 0} → Option A → Bool
+isSome none = false
+isSome (some a) = true
+
 -- the four facts of a packet that was dropped
 abbrev pub factsIn : Drop → Facts
 factsIn drop = factsOf (drop .count) (drop .marks .plant) (drop .marks .cell) (drop .header .transport .kind)
@@ -117,15 +140,22 @@ pub record TrueOf (settings : Settings) (cell plant : List ℕ) (drop : Drop) : 
   -- those are reported that would have had it forwarded, and "at least one is always reported"
   pub reported : drop .reported ≡ reportedOn (drop .threshold) (factsIn drop)
   pub one : oneOf (drop .reported) ≡ true
-  -- "the entries of the side lists that decided": one of the cell list on its source, and one of the plant list on its destination
-  pub of-cell : winningOf cell plant (drop .header .source) ≡ record { side = Cell; number = drop .«cell_entry» }
-  pub of-plant : winningOf cell plant (drop .header .destination) ≡ record { side = Plant; number = drop .«plant_entry» }
+  -- "the entries of the side lists that decided": one of the cell list on its source, and one of the plant list on its destination,
+  pub of-cell : winningOf cell plant (drop .header .source) ≡ record { side = Cell; number = drop .«cell_entry» .number }
+  pub of-plant : winningOf cell plant (drop .header .destination) ≡ record { side = Plant; number = drop .«plant_entry» .number }
+  -- each the five bytes that the lookup hands back
+  pub cell-bytes : StandsIn (winnerOf cell plant (drop .header .source)) (drop .«cell_entry»)
+  pub plant-bytes : StandsIn (winnerOf cell plant (drop .header .destination)) (drop .«plant_entry»)
 
-abbrev pub AllTrue : Settings → List ℕ → List ℕ → Explanation → Type 0
-AllTrue settings cell plant (why.Refused number) = Unit {0}
-AllTrue settings cell plant why.NotOurs = Unit {0}
-AllTrue settings cell plant (why.Forwarded verdict) = isForwarded verdict ≡ true
-AllTrue settings cell plant (why.Dropped drop) = TrueOf settings cell plant drop
+abbrev pub TrueWhere : Settings → List ℕ → List ℕ → Option Drop → Type 0
+TrueWhere settings cell plant none = Unit {0}
+TrueWhere settings cell plant (some drop) = TrueOf settings cell plant drop
+
+pub record AllTrue (settings : Settings) (cell plant : List ℕ) (told : Explanation) : Type 0 where
+  -- "Verdicts 0 to 4 get the verdict alone": why is told of 5 and 6, and of no other and no refusal
+  pub alone : isSome (dropExplained told) ≡ isDropNumber (verdictExplained told)
+  -- and what is told holds
+  pub holds : TrueWhere settings cell plant (dropExplained told)
 
 -- the plant's packets are all forwarded
 plant-passes : (blocked : Bool) (marks : Marks) (kind : Kind) → isForwarded (verdictOf true blocked marks kind) ≡ true
@@ -137,6 +167,15 @@ plant-passes blocked marks kind = go (marks .plant) (marks .cell) (isClosing kin
     go false true true = refl
     go false true false = refl
     go false false closing = refl
+
+-- "5 dropped, hygiene. 6 dropped, blocked.": no other verdict is
+dropped-by-number : (verdict : Verdict) → isDropNumber (some (numberOf verdict)) ≡ not (isForwarded verdict)
+dropped-by-number Uncounted = refl
+dropped-by-number CreditOfOne = refl
+dropped-by-number CreditOfTwo = refl
+dropped-by-number FreshContact = refl
+dropped-by-number Hygiene = refl
+dropped-by-number Blocked = refl
 
 -- a packet from the cell has its source there and its destination in the plant
 abbrev isFromCell : Direction → Bool
@@ -159,16 +198,23 @@ module _ (settings : Settings) (cell plant : List ℕ) where
   stands-at address side e =
       ap (λ (s : Side). record { side = s; number = winningOf cell plant address .number }) (sym (same-side cell plant address) ∙ e)
 
+  -- a verdict alone, and one with what is told beside it
+  verdict-alone : (verdict : Verdict) → isForwarded verdict ≡ true → AllTrue settings cell plant (why.Forwarded verdict)
+  verdict-alone verdict e = record { alone = sym (dropped-by-number verdict ∙ ap not e); holds = tt }
+
+  told-why : {drop : Drop} → TrueOf settings cell plant drop → AllTrue settings cell plant (why.Dropped drop)
+  told-why {drop} told = record { alone = sym (dropped-by-number (drop .verdict) ∙ ap not (told .dropped)); holds = told }
+
   cell-true : (h : Header) (met : Met) → directionIn cell plant h ≡ FromCell → (t : Bool)
       → isForwarded (verdictBy (document01 settings) h false (met .byte) (met .count)) ≡ t
       → AllTrue settings cell plant
       (cond t
       (why.Forwarded (verdictBy (document01 settings) h false (met .byte) (met .count)))
       (why.Dropped (dropOf (document01 settings) cell plant h (verdictBy (document01 settings) h false (met .byte) (met .count)) met)))
-  cell-true h met d true e = e
+  cell-true h met d true e = verdict-alone _ e
   cell-true h met d false e =
       let ends = sides-of _ _ d in
-      record {
+      told-why (record {
         threshold = refl;
         verdict = refl;
         dropped = e;
@@ -176,14 +222,16 @@ module _ (settings : Settings) (cell plant : List ℕ) where
         one = at-least-one (settings .threshold) (factsOf (met .count) (plantSeen (met .byte)) (cellSeen (met .byte)) (h .transport .kind)) e;
         of-cell = stands-at (h .source) Cell (ends .0);
         of-plant = stands-at (h .destination) Plant (ends .1);
-      }
+        cell-bytes = in-cell cell plant (h .source) (ends .0);
+        plant-bytes = in-plant cell plant (h .destination) (ends .1);
+      })
 
   plant-true : (h : Header) (met : Met) (t : Bool) → isForwarded (verdictBy (document01 settings) h true (met .byte) (met .count)) ≡ t
       → AllTrue settings cell plant
       (cond t
       (why.Forwarded (verdictBy (document01 settings) h true (met .byte) (met .count)))
       (why.Dropped (dropOf (document01 settings) cell plant h (verdictBy (document01 settings) h true (met .byte) (met .count)) met)))
-  plant-true h met true e = e
+  plant-true h met true e = verdict-alone _ e
   plant-true h met false e = true-is-not-false (plant-passes _ _ _) e
 
   -- what a packet of ours meets
@@ -196,11 +244,11 @@ module _ (settings : Settings) (cell plant : List ℕ) where
   unfolding whyByDirection whyOurs
   by-direction h FromCell tables e = cell-true h (metBy h false tables) e _ refl
   by-direction h FromPlant tables e = plant-true h (metBy h true tables) _ refl
-  by-direction h NotOurs tables e = tt
+  by-direction h NotOurs tables e = record { alone = refl; holds = tt }
 
   unless-refused : (number : ℕ) (told : Explanation) → AllTrue settings cell plant told → AllTrue settings cell plant (unlessRefusedBy number told)
   unless-refused zero told true-of = true-of
-  unless-refused (suc n) told true-of = tt
+  unless-refused (suc n) told true-of = record { alone = refl; holds = tt }
 
   -- for every input: what is told of a packet that is dropped holds of it, and only a packet from the cell is
   pub all-true : (time : ℕ) (bytes : List ℕ) (before : State) → AllTrue settings cell plant (whyOf document01 settings cell plant time bytes before)

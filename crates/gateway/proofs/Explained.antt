@@ -15,8 +15,8 @@ use Rattle.packet.specs.declared.Reading.the-variants.{Refused as Unread, Packe
 use Rattle.packet.specs.Header.{headerRefusal, headerOf, readOf}
 use Rattle.sides.specs.declared.Direction.{Direction}
 use Rattle.sides.specs.declared.Direction.the-variants.{FromCell, FromPlant, NotOurs}
-use Rattle.sides.specs.declared.Winning.{Winning}
-use Rattle.sides.specs.Lists.{winningOf}
+use Rattle.sides.specs.declared.Entry.{Entry}
+use Rattle.sides.specs.Lists.{decidingEntry}
 use Rattle.records.specs.declared.Marks.{Marks}
 use Rattle.records.specs.Records.{agedBy, marksOf}
 use Rattle.records.proofs.Ages.{zero-same}
@@ -81,8 +81,8 @@ module _ (settings : Settings) (time : ℕ) (records tags : List ℕ) (counts : 
       (s ∙ ap (λ (n : ℕ). spotOf (document01 settings) (settings .keys) h fromPlant n (length tags)) (sym (length-map records _)))
 
 -- ---- by what it meets
-pub drop-as : (rules : Rules) (cell plant : List ℕ) (h : Header) (verdict : Verdict) (met : Met) {marks : Marks} {of-cell of-plant : Winning} {reported : Reported}
-    → marks ≡ marksOf (met .byte) → of-cell ≡ winningOf cell plant (h .source) → of-plant ≡ winningOf cell plant (h .destination)
+pub drop-as : (rules : Rules) (cell plant : List ℕ) (h : Header) (verdict : Verdict) (met : Met) {marks : Marks} {of-cell of-plant : Entry} {reported : Reported}
+    → marks ≡ marksOf (met .byte) → of-cell ≡ decidingEntry cell plant (h .source) → of-plant ≡ decidingEntry cell plant (h .destination)
     → reported ≡ reportedOn (rules .threshold) (factsOf (met .count) (marks .plant) (marks .cell) (h .transport .kind))
     → record {
       verdict = verdict;
@@ -91,8 +91,8 @@ pub drop-as : (rules : Rules) (cell plant : List ℕ) (h : Header) (verdict : Ve
       marks = marks;
       threshold = rules .threshold;
       reported = reported;
-      «cell_entry» = of-cell .number;
-      «plant_entry» = of-plant .number;
+      «cell_entry» = of-cell;
+      «plant_entry» = of-plant;
     } ≡ dropOf rules cell plant h verdict met
 drop-as rules cell plant h verdict met m c p r = λ i. record {
   verdict = verdict;
@@ -101,8 +101,8 @@ drop-as rules cell plant h verdict met m c p r = λ i. record {
   marks = m i;
   threshold = rules .threshold;
   reported = (r ∙ ap (λ (x : Marks). reportedOn (rules .threshold) (factsOf (met .count) (x .plant) (x .cell) (h .transport .kind))) m) i;
-  «cell_entry» = c i .number;
-  «plant_entry» = p i .number;
+  «cell_entry» = c i;
+  «plant_entry» = p i;
 }
 
 module _ (rules : Rules) (cell plant : List ℕ) (h : Header) (fromPlant : Bool) (met : Met) where

@@ -10,7 +10,7 @@ use Rattle.packet.specs.declared.Header.{Header}
 use Rattle.packet.specs.Header.{headerOf}
 use Rattle.sides.specs.declared.Direction.{Direction}
 use Rattle.sides.specs.declared.Direction.the-variants.{FromCell, FromPlant, NotOurs}
-use Rattle.sides.specs.Lists.{winningOf}
+use Rattle.sides.specs.Lists.{decidingEntry}
 use Rattle.records.specs.Records.{marksOf, plantSeen, cellSeen}
 use Rattle.tables.specs.Tables.{Tables}
 use Rattle.verdicts.specs.declared.Verdict.{Verdict}
@@ -30,8 +30,8 @@ use Rattle.gateway.specs.Calls.{State, onward, packetRefusal}
 abbrev pub metIn : Spot → Tables → Met
 metIn spot tables = record { byte = recordMet spot tables; count = countMet spot tables }
 
--- "Beside them it gives the entries of the side lists that decided, the count and T": the entries by their numbers, that of the cell list on
--- the packet's source and that of the plant list on its destination, for only a packet from the cell is dropped
+-- "Beside them it gives the entries of the side lists that decided, the count and T": that of the cell list on the packet's source and that
+-- of the plant list on its destination, for only a packet from the cell is dropped
 abbrev pub dropOf : Rules → List ℕ → List ℕ → Header → Verdict → Met → Drop
 dropOf rules cell plant h verdict met =
     record {
@@ -43,8 +43,8 @@ dropOf rules cell plant h verdict met =
       reported =
           reportedOn (rules .threshold)
           (factsOf (met .count) (plantSeen (met .byte)) (cellSeen (met .byte)) (h .transport .kind));
-      «cell_entry» = winningOf cell plant (h .source) .number;
-      «plant_entry» = winningOf cell plant (h .destination) .number;
+      «cell_entry» = decidingEntry cell plant (h .source);
+      «plant_entry» = decidingEntry cell plant (h .destination);
     }
 
 -- "Verdicts 0 to 4 get the verdict alone."

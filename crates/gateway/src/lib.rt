@@ -6,6 +6,7 @@ ghost use Prim.Native.Nat.{_<_, _≤_};
 ghost use lib.ListN.{length};
 ghost use Rattle.packet.specs.Kinds.{portOf};
 ghost use Rattle.places.specs.Places.{slotOf};
+ghost use Rattle.sides.specs.Lists.{decidingEntry};
 ghost use Rattle.entries.specs.Entries.{writtenOf};
 ghost use Rattle.tables.specs.Sizes.{badSizes};
 ghost use Rattle.rulings.specs.Rules.{cellOf, plantOf, document01};
@@ -24,6 +25,7 @@ use rulings::answers::Answer;
 use rulings::answers::Replacement;
 use settings::Settings;
 use sides::Direction;
+use sides::Entry;
 use verdicts::Verdict;
 
 // What a call without a packet answers: the number of its refusal, or that it is done.
@@ -346,11 +348,19 @@ fn met_at(
     }
 }
 
+// The entry of the side lists that decides on an address, by value: its number, and what stands in the part that the lookup hands back.
+fn deciding_entry<'a>(cell: &'a [u8], plant: &'a [u8], address: u32) -> Entry
+    ensures { λ r. ⌜ r ≡ decidingEntry (now (cell .entry)) (now (plant .entry)) address ⌝ }
+{
+    let winning = sides::winning_entry(cell, plant, address);
+    sides::entry_in(winning.number, sides::winner(cell, plant, address))
+}
+
 // A packet that is dropped with a verdict: what it met, which facts would have had it forwarded, and the entries that made it ours.
-fn drop_of(
+fn drop_of<'a>(
     set: Settings,
-    cell: &[u8],
-    plant: &[u8],
+    cell: &'a [u8],
+    plant: &'a [u8],
     header: Header,
     verdict: Verdict,
     met: Met,
@@ -360,8 +370,8 @@ fn drop_of(
     let transport = header.transport;
     let kind = transport.kind;
     let marks = records::marks_of(met.byte);
-    let of_cell = sides::winning_entry(cell, plant, header.source);
-    let of_plant = sides::winning_entry(cell, plant, header.destination);
+    let cell_entry = deciding_entry(cell, plant, header.source);
+    let plant_entry = deciding_entry(cell, plant, header.destination);
     Drop {
         verdict,
         header,
@@ -369,16 +379,16 @@ fn drop_of(
         marks,
         threshold: set.threshold,
         reported: reasons::report(set.threshold, met.count, marks, kind),
-        cell_entry: of_cell.number,
-        plant_entry: of_plant.number,
+        cell_entry,
+        plant_entry,
     }
 }
 
 // Explains a packet of ours by what it meets.
-fn explain_met(
+fn explain_met<'a>(
     set: Settings,
-    cell: &[u8],
-    plant: &[u8],
+    cell: &'a [u8],
+    plant: &'a [u8],
     header: Header,
     from_plant: bool,
     met: Met,
@@ -397,10 +407,10 @@ fn explain_met(
 }
 
 // Explains a packet of ours, at a time.
-fn explain_ours(
+fn explain_ours<'a>(
     set: Settings,
-    cell: &[u8],
-    plant: &[u8],
+    cell: &'a [u8],
+    plant: &'a [u8],
     header: Header,
     from_plant: bool,
     records: &[u8],
@@ -419,10 +429,10 @@ fn explain_ours(
 }
 
 // Explains a packet by its direction, at a time.
-fn explain_by_direction(
+fn explain_by_direction<'a>(
     set: Settings,
-    cell: &[u8],
-    plant: &[u8],
+    cell: &'a [u8],
+    plant: &'a [u8],
     header: Header,
     direction: Direction,
     records: &[u8],
@@ -456,10 +466,10 @@ fn explain_by_direction(
 // Why a packet that comes at a time is dropped: which of four facts, changed alone, would have had it forwarded, with the entries of the side
 // lists that decided, the count and T. Answers the refusal that the packet would get, or the verdict alone where it is not dropped. Tables,
 // clock and lists are only read, and no table is swept or copied.
-pub fn why(
+pub fn why<'a>(
     set: Settings,
-    cell: &[u8],
-    plant: &[u8],
+    cell: &'a [u8],
+    plant: &'a [u8],
     records: &[u8],
     tags: &[u32],
     counts: &[i16],

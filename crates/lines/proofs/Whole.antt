@@ -65,13 +65,15 @@ pub signed-short : (count : ℤ) → natAbs count ≤ 2 ^ 15 → length (signed 
 signed-short (pos n) h = omega (arith, few n 4 n (omega (arith, h)))
 signed-short (negsuc n) h = omega (arith, few (suc n) 4 (suc n) (omega (arith, h)))
 
+pub byte-short : (n : ℕ) → n < 256 → length (decimal n) ≤ 3
+byte-short n h = few n 2 n (omega (arith, h))
+
 pub dotted-short : (address : ℕ) → address < 2 ^ 32 → length (dotted address) ≤ 15
 dotted-short address h =
-    let byte : (n : ℕ) → n < 256 → length (decimal n) ≤ 3 = λ n m. few n 2 n (omega (arith, m)) in
-    let a = byte (address / 16777216) (omega (arith, h)) in
-    let b = byte (address / 65536 % 256) (omega arith) in
-    let c = byte (address / 256 % 256) (omega arith) in
-    let d = byte (address % 256) (omega arith) in
+    let a = byte-short (address / 16777216) (omega (arith, h)) in
+    let b = byte-short (address / 65536 % 256) (omega arith) in
+    let c = byte-short (address / 256 % 256) (omega arith) in
+    let d = byte-short (address % 256) (omega arith) in
     omega (
       arith,
       a,

@@ -21,6 +21,7 @@ use Rattle.embed.proofs.plain.of_reading.Reads as embed-plain-of-reading
 use Rattle.embed.proofs.plain.of_reply.Reads as embed-plain-of-reply
 use Rattle.embed.proofs.plain.of_winning.Reads as embed-plain-of-winning
 use Rattle.embed.proofs.plain.of_written.Reads as embed-plain-of-written
+use Rattle.embed.proofs.plain.tally_with.Reads as embed-plain-tally-with
 use Rattle.embed.proofs.spritgrommet_cold_start.Reads as embed-spritgrommet-cold-start
 use Rattle.embed.proofs.spritgrommet_decrypt.Reads as embed-spritgrommet-decrypt
 use Rattle.embed.proofs.spritgrommet_encrypt.Reads as embed-spritgrommet-encrypt
@@ -32,7 +33,6 @@ use Rattle.embed.proofs.spritgrommet_open.Reads as embed-spritgrommet-open
 use Rattle.embed.proofs.spritgrommet_pass.Reads as embed-spritgrommet-pass
 use Rattle.embed.proofs.spritgrommet_put_header.Reads as embed-spritgrommet-put-header
 use Rattle.embed.proofs.spritgrommet_put_record.Reads as embed-spritgrommet-put-record
-use Rattle.embed.proofs.spritgrommet_tally.Reads as embed-spritgrommet-tally
 use Rattle.embed.proofs.spritgrommet_winner.Reads as embed-spritgrommet-winner
 use Rattle.embed.specs.Plain.{plainPutOf}
 use Rattle.embed_why.proofs.plain.of_explanation.Reads as embed-why-plain-of-explanation
@@ -89,11 +89,8 @@ use Rattle.rulings.proofs.ruling_of.Reads as rulings-ruling-of
 use Rattle.settings.proofs.Settings.factory.Reads as settings-settings-factory
 use Rattle.settings.proofs.Settings.is_bad.Reads as settings-settings-is-bad
 use Rattle.sides.proofs.bad_list.Reads as sides-bad-list
-use Rattle.sides.proofs.best_in.Reads as sides-best-in
-use Rattle.sides.proofs.best_of_two.Reads as sides-best-of-two
 use Rattle.sides.proofs.direction_between.Reads as sides-direction-between
-use Rattle.sides.proofs.direction_of.Reads as sides-direction-of
-use Rattle.sides.proofs.side_of.Reads as sides-side-of
+use Rattle.sides.proofs.entry_in.Reads as sides-entry-in
 use Rattle.sides.proofs.winner.Reads as sides-winner
 use Rattle.sides.proofs.winning_entry.Reads as sides-winning-entry
 use Rattle.streams.proofs.shift.Reads as streams-shift
@@ -182,12 +179,6 @@ places-address-of-one κs a x y s t p q = same p q
 pub sides-bad-list-one : (κs : _) (a : _) → One (sides-bad-list.Learnt κs a) (λ x s. x)
 sides-bad-list-one κs a x y s t p q = same p q
 
-pub sides-best-in-one : (κs : _) (a : _) → One (sides-best-in.Learnt κs a) (λ x s. x)
-sides-best-in-one κs a x y s t p q = same p q
-
-pub sides-best-of-two-one : (κs : _) (a : _) → One (sides-best-of-two.Learnt κs a) (λ x s. x)
-sides-best-of-two-one κs a x y s t p q = same p q
-
 pub sides-winner-one-part : (κs : _) (a : _) → One (sides-winner.Learnt κs a) (λ x s. now x)
 sides-winner-one-part κs a x y s t p q = same (p .0) (q .0)
 
@@ -197,11 +188,8 @@ sides-winner-one-place κs a x y s t p q = same (p .1) (q .1)
 pub sides-winning-entry-one : (κs : _) (a : _) → One (sides-winning-entry.Learnt κs a) (λ x s. x)
 sides-winning-entry-one κs a x y s t p q = same p q
 
-pub sides-side-of-one : (κs : _) (a : _) → One (sides-side-of.Learnt κs a) (λ x s. x)
-sides-side-of-one κs a x y s t p q = same p q
-
-pub sides-direction-of-one : (κs : _) (a : _) → One (sides-direction-of.Learnt κs a) (λ x s. x)
-sides-direction-of-one κs a x y s t p q = same p q
+pub sides-entry-in-one : (κs : _) (a : _) → One (sides-entry-in.Learnt κs a) (λ x s. x)
+sides-entry-in-one κs a x y s t p q = same p q
 
 pub sides-direction-between-one : (κs : _) (a : _) → One (sides-direction-between.Learnt κs a) (λ x s. x)
 sides-direction-between-one κs a x y s t p q = same p q
@@ -416,9 +404,6 @@ embed-spritgrommet-encrypt-one κs a x y s t p q = same p q
 pub embed-spritgrommet-decrypt-one : (κs : _) (a : _) → One (embed-spritgrommet-decrypt.Learnt κs a) (λ x s. x)
 embed-spritgrommet-decrypt-one κs a x y s t p q = same p q
 
-pub embed-spritgrommet-tally-one : (κs : _) (a : _) → One (embed-spritgrommet-tally.Learnt κs a) (λ x s. now (s .0))
-embed-spritgrommet-tally-one κs a x y s t p q = same p q
-
 pub embed-spritgrommet-open-one : (κs : _) (a : _) → One (embed-spritgrommet-open.Learnt κs a) (λ x s. x)
 embed-spritgrommet-open-one κs a x y s t p q = same p q
 
@@ -436,6 +421,9 @@ embed-plain-of-reply-one κs a x y s t p q = same p q
 
 pub embed-plain-of-answer-one : (κs : _) (a : _) → One (embed-plain-of-answer.Learnt κs a) (λ x s. x)
 embed-plain-of-answer-one κs a x y s t p q = same p q
+
+pub embed-plain-tally-with-one : (κs : _) (a : _) → One (embed-plain-tally-with.Learnt κs a) (λ x s. x)
+embed-plain-tally-with-one κs a x y s t p q = same p q
 
 pub embed-plain-of-written-one : (κs : _) (a : _) → One (embed-plain-of-written.Learnt κs a) (λ x s. x)
 embed-plain-of-written-one κs a x y s t p q = same p q
@@ -458,8 +446,8 @@ embed-why-spritgrommet-why-frame-one κs a x y s t p q = same p q
 pub embed-why-plain-of-explanation-one : (κs : _) (a : _) → One (embed-why-plain-of-explanation.Learnt κs a) (λ x s. x)
 embed-why-plain-of-explanation-one κs a x y s t p q = same p q
 
+-- embed::spritgrommet_tally is left out: its proof is a walk by hand, for which there is no `Learnt`; its contract is the equation of `plain::tally_with`
+
 -- programs::replay is left out: it answers nothing, is lent nothing, and what it reads and writes no contract can say
 
 -- streams::fill is left out: it reads standard input, and what is read no contract can say
-
--- tally::add is left out: its proof is a walk by hand, for which there is no `Learnt`; its contract is the equation of `Tally::with`

@@ -1,2 +1,3 @@
--- Which facts made a packet from the cell be dropped.
+-- Which facts made a packet from the cell be dropped, and what is told of it.
 pub mod Reasons
+pub mod Explanations

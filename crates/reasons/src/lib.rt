@@ -7,6 +7,7 @@ ghost use Rattle.reasons.specs.Reasons.{factsOf, kindValues, reportedOn}
 use packet::Header;
 use packet::kinds::Kind;
 use records::Marks;
+use sides::Entry;
 use verdicts::Verdict;
 
 // Four facts, and whether each is reported: the address's count, the plant-to-cell mark, the cell-to-plant mark, the kind of packet.
@@ -17,8 +18,8 @@ pub struct Reported {
     pub kind: bool,
 }
 
-// A packet that was dropped: its verdict, its headers, the count and the marks that it met, T, the facts that are reported, and the numbers,
-// from 1, of the entries that decided: of the cell list on its source, of the plant list on its destination.
+// A packet that was dropped: its verdict, its headers, the count and the marks that it met, T, the facts that are reported, and the entries
+// that decided: of the cell list on its source, of the plant list on its destination.
 pub struct Drop {
     pub verdict: Verdict,
     pub header: Header,
@@ -26,8 +27,8 @@ pub struct Drop {
     pub marks: Marks,
     pub threshold: u16,
     pub reported: Reported,
-    pub cell_entry: usize,
-    pub plant_entry: usize,
+    pub cell_entry: Entry,
+    pub plant_entry: Entry,
 }
 
 // What the gateway answers to the question why: a refusal's number alone; that the packet is not ours; the verdict alone of one that is

@@ -7,12 +7,13 @@ use lib.Dec.{eqb, leb, ltb}
 use lib.ListN.{length, getD, take, drop}
 use denote.Ref.{RefT}
 use Rattle.laws.specs.Search.{every, foremost}
-use Rattle.words.specs.Words.{fourAt}
+use Rattle.words.specs.Words.{fourAt, whole}
 use Rattle.sides.specs.declared.Best.{Best}
 use Rattle.sides.specs.declared.BestOfTwo.{BestOfTwo}
 use Rattle.sides.specs.declared.Side.{Side}
 use Rattle.sides.specs.declared.Side.the-variants.{Cell, Plant, Neither}
 use Rattle.sides.specs.declared.Winning.{Winning}
+use Rattle.sides.specs.declared.Entry.{Entry}
 use Rattle.sides.specs.declared.Direction.{Direction}
 use Rattle.sides.specs.declared.Direction.the-variants.{FromCell, FromPlant, NotOurs}
 
@@ -96,6 +97,14 @@ winningOf cell plant address =
     (record { side = Cell; number = bestIn cell address .number })
     (record { side = Plant; number = bestIn plant address .number })
     (record { side = Neither; number = 0 })
+
+-- document 02, K4: "the entries of the side lists that decided", by value: the number in its list, and the address and the prefix length that
+-- stand in a part; all 0 in the empty one
+abbrev pub entryIn : ℕ → List ℕ → Entry
+entryIn number part = record { number = number; address = whole 4 fourAt part 0; prefix = getD part 4 0 }
+
+abbrev pub decidingEntry : List ℕ → List ℕ → ℕ → Entry
+decidingEntry cell plant address = entryIn (winningOf cell plant address .number) (winnerOf cell plant address)
 
 -- "A packet is ours when one end is cell and the other plant."
 abbrev pub directionOf : Side → Side → Direction

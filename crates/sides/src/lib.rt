@@ -2,8 +2,8 @@
 // prefix length.
 ghost use mathlib.Core.Path.{_≡_};
 ghost use Prim.Native.Nat.{_+_, _*_, _-_, _<_, _≤_};
-ghost use lib.ListN.{length};
-ghost use Rattle.sides.specs.Lists.{badList, rankAt, bestIn, bestOfTwo, entryOf, past, winnerOf, winnerAt, winningOf, sideBy, sideOf, directionOf, directionBetween};
+ghost use lib.ListN.{length, getD};
+ghost use Rattle.sides.specs.Lists.{badList, rankAt, bestIn, bestOfTwo, entryOf, past, winnerOf, winnerAt, winningOf, entryIn, sideBy, directionOf, directionBetween};
 
 // The side that an address belongs to: outside, inside, or neither list holds it.
 pub enum Side {
@@ -21,21 +21,29 @@ pub enum Direction {
 
 // What a list has for an address: the number, from 1, of the entry that holds it best, and that entry's prefix length plus one. Both
 // are 0 where no entry holds the address.
-pub struct Best {
-    pub number: usize,
-    pub rank: u8,
+struct Best {
+    number: usize,
+    rank: u8,
 }
 
 // What a list has for two addresses.
-pub struct BestOfTwo {
-    pub first: Best,
-    pub second: Best,
+struct BestOfTwo {
+    first: Best,
+    second: Best,
 }
 
 // Where the winning entry of an address stands: the side whose list has it, and its number there, from 1.
 pub struct Winning {
     pub side: Side,
     pub number: usize,
+}
+
+// An entry of a side list by value: its number there, from 1, its address and its prefix length; each 0 where there is none.
+#[repr(C)]
+pub struct Entry {
+    pub number: usize,
+    pub address: u32,
+    pub prefix: u8,
 }
 
 // Refusal 3: whether a side list is not of whole entries, has over 64 of them, or a prefix length over 32.
@@ -74,7 +82,7 @@ fn rank(list: &[u8], k: usize, address: u32) -> u8
 }
 
 // The entry of a list that holds an address with the longest prefix, the first such: its number, from 1, and its rank; both 0 where none does.
-pub fn best_in(list: &[u8], address: u32) -> Best
+fn best_in(list: &[u8], address: u32) -> Best
     ensures { λ r. ⌜ r ≡ bestIn (now (list .entry)) address ⌝ }
 {
     let entries = list.len() / 5;
@@ -91,7 +99,7 @@ pub fn best_in(list: &[u8], address: u32) -> Best
 }
 
 // What a list has for each of two addresses, as `best_in` tells it, in one pass over the list.
-pub fn best_of_two(list: &[u8], first: u32, second: u32) -> BestOfTwo
+fn best_of_two(list: &[u8], first: u32, second: u32) -> BestOfTwo
     ensures { λ r. ⌜ r ≡ bestOfTwo (now (list .entry)) first second ⌝ }
 {
     let entries = list.len() / 5;
@@ -137,7 +145,7 @@ fn side_by(in_cell: Best, in_plant: Best) -> Side
 }
 
 // Entry `number`, counted from 1, as a part of its list.
-fn entry<'a>(list: &'a [u8], number: usize) -> &'a [u8]
+fn part<'a>(list: &'a [u8], number: usize) -> &'a [u8]
     requires { ⌜ (0 < number) × (5 * number ≤ length (now list)) ⌝ }
     ensures bytes { λ r. ⌜ now r ≡ entryOf (now (list .entry)) number ⌝ }
     ensures place { λ r. ⌜ r .ptr ≡ past (list .entry .ptr) (5 * number - 5) ⌝ }
@@ -155,8 +163,8 @@ pub fn winner<'a>(cell: &'a [u8], plant: &'a [u8], address: u32) -> &'a [u8]
     let of_cell = best_in(cell, address);
     let of_plant = best_in(plant, address);
     match side_by(of_cell, of_plant) {
-        Side::Cell => entry(cell, of_cell.number),
-        Side::Plant => entry(plant, of_plant.number),
+        Side::Cell => part(cell, of_cell.number),
+        Side::Plant => part(plant, of_plant.number),
         Side::Neither => &cell[0..0],
     }
 }
@@ -181,17 +189,29 @@ pub fn winning_entry(cell: &[u8], plant: &[u8], address: u32) -> Winning
     }
 }
 
-// The side that an address belongs to: whose list has the winning entry, or neither.
-pub fn side_of(cell: &[u8], plant: &[u8], address: u32) -> Side
-    ensures { λ r. ⌜ r ≡ sideOf (now (cell .entry)) (now (plant .entry)) address ⌝ }
+// The prefix length of an entry, in its part; 0 where that is empty.
+fn prefix_in(part: &[u8]) -> u8
+    ensures { λ r. ⌜ r ≡ getD (now (part .entry)) 4 0 ⌝ }
 {
-    let in_cell = best_in(cell, address);
-    let in_plant = best_in(plant, address);
-    side_by(in_cell, in_plant)
+    if part.len() < 5 {
+        return 0;
+    }
+    part[4]
+}
+
+// An entry by value: the number that it has in its list, and the address and the prefix length in its part. An empty part has 0 for both.
+pub fn entry_in(number: usize, part: &[u8]) -> Entry
+    ensures { λ r. ⌜ r ≡ entryIn number (now (part .entry)) ⌝ }
+{
+    Entry {
+        number,
+        address: words::four_at(part, 0),
+        prefix: prefix_in(part),
+    }
 }
 
 // The direction of a packet whose ends are on these sides: from the cell, from the plant, or not ours.
-pub fn direction_of(source: Side, destination: Side) -> Direction
+fn direction_of(source: Side, destination: Side) -> Direction
     ensures { λ r. ⌜ r ≡ directionOf source destination ⌝ }
 {
     match source {

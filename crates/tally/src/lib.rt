@@ -1,10 +1,11 @@
-// The tally of verdicts: by value, and one thin function over a tally that the caller lends.
+// The tally of verdicts, by value. The one function over a tally that the caller lends is the library's, `embed::spritgrommet_tally`.
 ghost use mathlib.Core.Path.{_≡_};
 ghost use Rattle.rulings.specs.Answers.{verdictTold};
 ghost use Rattle.tally.specs.Tally.{emptyTally, oneMore, tallied, verdictNumbered};
 use rulings::answers::Answer;
 
 // A total for each verdict, 0 to 6, by its number.
+#[repr(C)]
 pub struct Tally {
     pub totals: [u32; 7],
 }
@@ -47,11 +48,4 @@ impl Tally {
             Answer::Judged { verdict, .. } => self.with_verdict(verdicts::number(verdict)),
         }
     }
-}
-
-// Adds an answer's verdict to the tally that is lent. A refusal adds nothing.
-pub fn add(tally: &mut Tally, answer: Answer)
-    ensures { λ _. ⌜ now (tally .exit) ≡ tallied (now (tally .entry)) (verdictTold answer) ⌝ }
-{
-    *tally = (*tally).with(answer);
 }

@@ -5,7 +5,7 @@ use crate::random::Random;
 use second::gateway::{Gateway as Second, Settings as SecondSettings};
 use second::samples;
 use second::sides::Sides;
-use spritgrommet::{tally, Answer, Gateway, Refusal, Settings};
+use spritgrommet::{Answer, Gateway, Refusal, Settings, Tally};
 
 type Entry = (u32, u32);
 
@@ -100,7 +100,7 @@ fn told(answer: Result<Answer, Refusal>) -> (u8, u8, Option<i64>, Option<u32>) {
 fn run(seed: u64, calls: u32) -> [u32; 7] {
     let random = &mut Random(seed);
     let (mut gateway, mut second) = both(random);
-    let mut totals = [0; 7];
+    let mut tally = Tally::default();
     let mut by_hand = [0; 7];
     for call in 0..calls {
         let time = later(random, gateway.clock());
@@ -111,14 +111,14 @@ fn run(seed: u64, calls: u32) -> [u32; 7] {
         }
         let packet = packet(random);
         let answer = gateway.packet(time, &packet);
-        tally(&mut totals, &answer);
+        tally.add(&answer);
         if let Ok(answer) = answer {
             by_hand[answer.verdict as usize] += 1;
         }
         assert_eq!(told(answer), expected(second.packet(time, &packet)), "seed {seed}, call {call}");
     }
-    assert_eq!(totals, by_hand);
-    totals
+    assert_eq!(tally.totals, by_hand);
+    by_hand
 }
 
 #[test]

@@ -2,8 +2,9 @@
 
 use crate::random::Random;
 use second::samples;
-use spritgrommet::{decrypt, encrypt, tally, winner};
-use spritgrommet::{Answer, Capture, CaptureWriter, Gateway, Record, Refusal, Settings, Side, Verdict};
+use spritgrommet::raw::{self, PlainAnswer};
+use spritgrommet::{decrypt, encrypt, winner};
+use spritgrommet::{Answer, Capture, CaptureWriter, Gateway, Record, Refusal, Settings, Side, Tally, Verdict};
 
 pub const CELL: [u8; 5] = [10, 0, 0, 0, 8];
 pub const PLANT: [u8; 5] = [192, 168, 0, 0, 16];
@@ -109,13 +110,28 @@ fn side_lists() {
 
 #[test]
 fn totals_stop() {
-    let mut totals = [u32::MAX, 0, 0, 0, 0, 0, u32::MAX - 1];
+    let mut tally = Tally { totals: [u32::MAX, 0, 0, 0, 0, 0, u32::MAX - 1] };
     let blocked = Ok(Answer { verdict: Verdict::Blocked, count: Some(10), replaced: None });
-    tally(&mut totals, &blocked);
-    tally(&mut totals, &blocked);
-    tally(&mut totals, &Ok(Answer { verdict: Verdict::NotOurs, count: None, replaced: None }));
-    tally(&mut totals, &Err(Refusal(5)));
-    assert_eq!(totals, [u32::MAX, 0, 0, 0, 0, 0, u32::MAX]);
+    tally.add(&blocked);
+    tally.add(&blocked);
+    tally.add(&Ok(Answer { verdict: Verdict::NotOurs, count: None, replaced: None }));
+    tally.add(&Err(Refusal(5)));
+    assert_eq!(tally.totals, [u32::MAX, 0, 0, 0, 0, 0, u32::MAX]);
+}
+
+/// The archive's own step, on every refusal and every verdict that a byte may hold: one total at most is one more.
+#[test]
+fn one_total_each() {
+    for (refusal, verdict) in (0..=u8::MAX).flat_map(|refusal| (0..=u8::MAX).map(move |verdict| (refusal, verdict))) {
+        let mut tally = Tally { totals: [10, 11, 12, 13, 14, 15, 16] };
+        let mut by_hand = tally;
+        if let (0, Some(total)) = (refusal, by_hand.totals.get_mut(usize::from(verdict))) {
+            *total += 1;
+        }
+        // SAFETY: the pointer leads to a tally, lent for writing.
+        unsafe { raw::spritgrommet_tally(&mut tally, PlainAnswer { refusal, verdict, count: 1, replaced: 1, address: 1 }) };
+        assert_eq!(tally, by_hand, "refusal {refusal}, verdict {verdict}");
+    }
 }
 
 #[test]

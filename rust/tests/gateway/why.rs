@@ -9,13 +9,19 @@ use crate::random::Random;
 use second::cipher;
 use second::header::Kind;
 use second::samples::{self, CELL, PLANT};
+use second::sides::Decided;
 use second::why::{self, Facts, KINDS, MARK};
 use spritgrommet::raw::{self, PlainAnswer, PlainReason};
-use spritgrommet::{winner, Answer, Dropped, Gateway, Reason, Refusal, Settings, Side, Verdict};
+use spritgrommet::{winner, Answer, Dropped, Entry, Gateway, Reason, Refusal, Settings, Side, Verdict};
 use std::collections::{BTreeMap, BTreeSet};
 
 /// The count of an entry that is empty.
 const EMPTY: i16 = -32_768;
+
+/// No entry of a side list, and the only ones of `calls::CELL` and `calls::PLANT`.
+const NONE: Entry = Entry { number: 0, address: 0, prefix: 0 };
+const OF_CELL: Entry = Entry { number: 1, address: 0x0A00_0000, prefix: 8 };
+const OF_PLANT: Entry = Entry { number: 1, address: 0xC0A8_0000, prefix: 16 };
 
 /// All that the archive's functions are lent, or a copy of it.
 #[derive(Clone, Debug, PartialEq, Eq)]
@@ -202,9 +208,14 @@ fn alone(refusal: u8, verdict: u8) -> PlainReason {
         by_plant_mark: false,
         by_cell_mark: false,
         by_kind: false,
-        cell_entry: 0,
-        plant_entry: 0,
+        cell_entry: NONE,
+        plant_entry: NONE,
     }
+}
+
+/// An entry that decided, as the second program tells it.
+fn entry_of(Decided { number, entry: (address, prefix), .. }: Decided) -> Entry {
+    Entry { number, address, prefix: prefix as u8 }
 }
 
 /// A dropped packet in plain numbers, for lists of one entry. Kinds are numbered in document 02's order.
@@ -222,8 +233,8 @@ fn of_drop(verdict: second::gateway::Verdict, threshold: i64, facts: Facts, repo
         by_plant_mark,
         by_cell_mark,
         by_kind,
-        cell_entry: 1,
-        plant_entry: 1,
+        cell_entry: OF_CELL,
+        plant_entry: OF_PLANT,
     }
 }
 
@@ -244,7 +255,7 @@ fn expected(told: Result<why::Explanation, second::refusal::Refusal>) -> PlainRe
         Ok(why::Explanation::Dropped(why::Dropped {
             verdict, threshold, facts, reported, cell_entry, plant_entry, ..
         })) => {
-            let (cell_entry, plant_entry) = (cell_entry.number, plant_entry.number);
+            let (cell_entry, plant_entry) = (entry_of(cell_entry), entry_of(plant_entry));
             PlainReason { cell_entry, plant_entry, ..of_drop(verdict, threshold, facts, reported) }
         }
     }
@@ -537,7 +548,7 @@ fn the_incident() {
             let Dropped { threshold, reported, .. } = why;
             assert_eq!((why.verdict, why.kind, why.count, threshold), (verdict, spritgrommet::Kind::Udp, 5, 5));
             assert_eq!(reported, spritgrommet::Facts { count: true, plant_mark: false, cell_mark: false, kind: false });
-            assert_eq!((why.plant_mark, why.cell_mark, why.cell_entry, why.plant_entry), (false, false, 1, 1));
+            assert_eq!((why.plant_mark, why.cell_mark, why.cell_entry, why.plant_entry), (false, false, OF_CELL, OF_PLANT));
         }
     }
 }
@@ -584,19 +595,32 @@ fn the_same_reasons() {
     assert!(met.values().all(|times| 50 < *times), "{met:?}");
 }
 
-/// The entries that are told are those that `winner` names, wherever in their lists they stand.
+/// An entry of a list by its number, from 1, and none by 0: its five bytes as they stand there.
+fn entry_at(list: &[u8], number: usize) -> Entry {
+    let Some(before) = number.checked_sub(1) else { return NONE };
+    let [a, b, c, d, prefix] = list[5 * before..5 * number] else { unreachable!("five bytes") };
+    Entry { number, address: u32::from_be_bytes([a, b, c, d]), prefix }
+}
+
+/// The entries that are told are those that `winner` names, wherever in their lists they stand, with the address and the prefix length that
+/// stand there.
 #[test]
 fn the_entries_that_decided() {
     let cell = [(0x0A00_0000, 8), (0x0A01_0000, 16), (0x0A01_02FF, 24), (0x0A01_0200, 24), (0x0A01_0203, 32)];
     let plant = [(0, 0), (0xC0A8_0000, 16), (0xC0A8_0000, 16), (0x0A01_0200, 24), (0xC0A8_0180, 25)];
-    let (cell, plant) = (bytes_of(&cell), bytes_of(&plant));
-    let gateway = Gateway::start(Settings::factory(), &cell, &plant, 16, 1, 0).expect("good settings and sizes");
+    let by = |list: &[(u32, u32)], number: usize| {
+        let (address, prefix) = list[number - 1];
+        Entry { number, address, prefix: prefix as u8 }
+    };
+    let (of_cell, of_plant) = (bytes_of(&cell), bytes_of(&plant));
+    let gateway = Gateway::start(Settings::factory(), &of_cell, &of_plant, 16, 1, 0).expect("good settings and sizes");
     for (source, cell_entry) in [(0x0A00_0001, 1), (0x0A01_0001, 2), (0x0A01_0201, 3), (0x0A01_0203, 5)] {
         for (destination, plant_entry) in [(0xFFFF_FFFF, 1), (0xC0A8_0101, 2), (0xC0A8_01FF, 5)] {
-            assert_eq!(winner(&cell, &plant, source), Some((Side::Cell, cell_entry)));
-            assert_eq!(winner(&cell, &plant, destination), Some((Side::Plant, plant_entry)));
+            assert_eq!(winner(&of_cell, &of_plant, source), Some((Side::Cell, cell_entry)));
+            assert_eq!(winner(&of_cell, &of_plant, destination), Some((Side::Plant, plant_entry)));
             let reason = told(gateway.why(0, &samples::tcp((source, 1), (destination, 2), 18)));
-            assert_eq!((reason.verdict, reason.cell_entry, reason.plant_entry), (5, cell_entry, plant_entry));
+            assert_eq!(reason.verdict, 5);
+            assert_eq!((reason.cell_entry, reason.plant_entry), (by(&cell, cell_entry), by(&plant, plant_entry)));
         }
     }
     let (random, mut later_entries) = (&mut Random(7), 0);
@@ -612,7 +636,8 @@ fn the_entries_that_decided() {
                 (Some((Side::Plant, _)), Some((Side::Cell, _))) => (1, (0, 0)),
                 _ => (0, (0, 0)),
             };
-            assert_eq!((reason.verdict, (reason.cell_entry, reason.plant_entry)), (verdict, entries));
+            let entries_there = (entry_at(&cell, entries.0), entry_at(&plant, entries.1));
+            assert_eq!((reason.verdict, (reason.cell_entry, reason.plant_entry)), (verdict, entries_there));
             later_entries += u32::from(entries.0 > 1 && entries.1 > 1);
         }
     }

@@ -84,6 +84,12 @@ put-decimal-requires-6 c κs = search needs
 put-decimal-requires-7 : tie.Need-put-decimal-requires-7
 put-decimal-requires-7 c κs = search needs
 
+put-entry-requires : tie.Need-put-entry-requires
+put-entry-requires c κs = search needs
+
+put-entry-requires-2 : tie.Need-put-entry-requires-2
+put-entry-requires-2 c κs = search needs
+
 put-kinds-requires : tie.Need-put-kinds-requires
 put-kinds-requires c κs = search needs
 
@@ -108,7 +114,7 @@ same-length-3 c = search needs
 returns-3 : tie.Need-returns-3
 unfolding valueOf
 returns-3 c =
-    rw (c .before .before .before .before .before .match .keys3) (rw (toZ-ofZ w16 (c .before .before .before .before .before .before .before .before .before .before .args .report .drop .count) (record { sfits = c .before .before .before .struct-told .given .1 .1 .0 .1 })) at (c .before .before .put-signed .ensures))
+    rw (c .before .before .before .before .before .match .keys3) (rw (toZ-ofZ w16 (c .before .before .before .before .before .before .before .before .before .before .before .before .args .report .drop .count) (record { sfits = c .before .before .before .struct-told .given .1 .1 .0 .1 })) at (c .before .before .put-signed .ensures))
 
 same-length-4 : tie.Need-same-length-4
 same-length-4 c = search needs
@@ -210,13 +216,27 @@ same-length-17 c = search needs
 
 returns-17 : tie.Need-returns-17
 unfolding valueOf
-returns-17 c = rw (c .before .before .before .before .match .keys17) (c .before .before .put-kinds .ensures)
+returns-17 c = rw (c .before .before .before .before .match .keys17) (c .before .before .put-entry .ensures)
+
+same-length-18 : tie.Need-same-length-18
+same-length-18 c = search needs
 
 returns-18 : tie.Need-returns-18
 unfolding valueOf
-returns-18 c =
+returns-18 c = rw (c .before .before .before .before .match .keys18) (c .before .before .put-entry2 .ensures)
+
+same-length-19 : tie.Need-same-length-19
+same-length-19 c = search needs
+
+returns-19 : tie.Need-returns-19
+unfolding valueOf
+returns-19 c = rw (c .before .before .before .before .match .keys19) (c .before .before .put-kinds .ensures)
+
+returns-20 : tie.Need-returns-20
+unfolding valueOf
+returns-20 c =
     let r = c .match .rest in
-    rw (ne-eqb _ 110 (r .0 .0 .0 .0 .0 .0 .0 .0 .0 .0 .0 .0 .0 .0 .0 .0 .1), ne-eqb _ 118 (r .0 .0 .0 .0 .0 .0 .0 .0 .0 .0 .0 .0 .0 .0 .0 .1), ne-eqb _ 99 (r .0 .0 .0 .0 .0 .0 .0 .0 .0 .0 .0 .0 .0 .0 .1), ne-eqb _ 116 (r .0 .0 .0 .0 .0 .0 .0 .0 .0 .0 .0 .0 .0 .1), ne-eqb _ 115 (r .0 .0 .0 .0 .0 .0 .0 .0 .0 .0 .0 .0 .1), ne-eqb _ 97 (r .0 .0 .0 .0 .0 .0 .0 .0 .0 .0 .0 .1), ne-eqb _ 98 (r .0 .0 .0 .0 .0 .0 .0 .0 .0 .0 .1), ne-eqb _ 112 (r .0 .0 .0 .0 .0 .0 .0 .0 .0 .1), ne-eqb _ 113 (r .0 .0 .0 .0 .0 .0 .0 .0 .1), ne-eqb _ 80 (r .0 .0 .0 .0 .0 .0 .0 .1), ne-eqb _ 81 (r .0 .0 .0 .0 .0 .0 .1), ne-eqb _ 105 (r .0 .0 .0 .0 .0 .1), ne-eqb _ 107 (r .0 .0 .0 .0 .1), ne-eqb _ 75 (r .0 .0 .0 .1), ne-eqb _ 101 (r .0 .0 .1), ne-eqb _ 102 (r .0 .1), ne-eqb _ 119 (r .1)) (put-nothing _)
+    rw (ne-eqb _ 110 (r .0 .0 .0 .0 .0 .0 .0 .0 .0 .0 .0 .0 .0 .0 .0 .0 .0 .0 .1), ne-eqb _ 118 (r .0 .0 .0 .0 .0 .0 .0 .0 .0 .0 .0 .0 .0 .0 .0 .0 .0 .1), ne-eqb _ 99 (r .0 .0 .0 .0 .0 .0 .0 .0 .0 .0 .0 .0 .0 .0 .0 .0 .1), ne-eqb _ 116 (r .0 .0 .0 .0 .0 .0 .0 .0 .0 .0 .0 .0 .0 .0 .0 .1), ne-eqb _ 115 (r .0 .0 .0 .0 .0 .0 .0 .0 .0 .0 .0 .0 .0 .0 .1), ne-eqb _ 97 (r .0 .0 .0 .0 .0 .0 .0 .0 .0 .0 .0 .0 .0 .1), ne-eqb _ 98 (r .0 .0 .0 .0 .0 .0 .0 .0 .0 .0 .0 .0 .1), ne-eqb _ 112 (r .0 .0 .0 .0 .0 .0 .0 .0 .0 .0 .0 .1), ne-eqb _ 113 (r .0 .0 .0 .0 .0 .0 .0 .0 .0 .0 .1), ne-eqb _ 80 (r .0 .0 .0 .0 .0 .0 .0 .0 .0 .1), ne-eqb _ 81 (r .0 .0 .0 .0 .0 .0 .0 .0 .1), ne-eqb _ 105 (r .0 .0 .0 .0 .0 .0 .0 .1), ne-eqb _ 107 (r .0 .0 .0 .0 .0 .0 .1), ne-eqb _ 75 (r .0 .0 .0 .0 .0 .1), ne-eqb _ 101 (r .0 .0 .0 .0 .1), ne-eqb _ 102 (r .0 .0 .0 .1), ne-eqb _ 69 (r .0 .0 .1), ne-eqb _ 70 (r .0 .1), ne-eqb _ 119 (r .1)) (put-nothing _)
 
 pub put-value-spec : {M : Type 1} → statement M
 put-value-spec =
@@ -247,6 +267,8 @@ put-value-spec =
     put-kind-words-requires
     put-decimal-requires-6
     put-decimal-requires-7
+    put-entry-requires
+    put-entry-requires-2
     put-kinds-requires
     same-length
     returns
@@ -282,4 +304,8 @@ put-value-spec =
     returns-16
     same-length-17
     returns-17
-    returns-18)
+    same-length-18
+    returns-18
+    same-length-19
+    returns-19
+    returns-20)

@@ -12,11 +12,11 @@ use Rattle.gateway.proofs.drop_of.Tie as tie
 marks-of-requires : tie.Need-marks-of-requires
 marks-of-requires c κs = search needs
 
-winning-entry-requires : tie.Need-winning-entry-requires
-winning-entry-requires c κs = search needs
+deciding-entry-requires : tie.Need-deciding-entry-requires
+deciding-entry-requires c κs = search needs
 
-winning-entry-requires-2 : tie.Need-winning-entry-requires-2
-winning-entry-requires-2 c κs = search needs
+deciding-entry-requires-2 : tie.Need-deciding-entry-requires-2
+deciding-entry-requires-2 c κs = search needs
 
 report-requires : tie.Need-report-requires
 report-requires c κs = search needs
@@ -30,14 +30,14 @@ returns c =
     let count = toZ-ofZ w16 (s .args .met .count) (record { sfits = r .before .struct-told .given .1 .0 .1 }) in
     rw count
     (drop-as (document01 (s .args .set)) (now (s .args .cell)) (now (s .args .plant)) (s .args .header) (s .args .verdict) (s .args .met)
-    (m .marks-of .ensures) (p .before .winning-entry .ensures) (p .winning-entry2 .ensures) (rw count at (r .report .ensures)))
+    (m .marks-of .ensures) (p .before .deciding-entry .ensures) (p .deciding-entry2 .ensures) (rw count at (r .report .ensures)))
 
 pub drop-of-spec : {M : Type 1} → statement M
 drop-of-spec =
     tie.close
     (tie.spec
     marks-of-requires
-    winning-entry-requires
-    winning-entry-requires-2
+    deciding-entry-requires
+    deciding-entry-requires-2
     report-requires
     returns)

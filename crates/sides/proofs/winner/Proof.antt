@@ -19,8 +19,8 @@ side-by-requires c κs = search needs
 enum-told : tie.Need-enum-told
 enum-told c = search needs
 
-entry-requires : tie.Need-entry-requires
-entry-requires c κs =
+part-requires : tie.Need-part-requires
+part-requires c κs =
     let s = c .before .before in
     let ofCell = s .before .before .best-in .ensures in
     let ofPlant = s .before .best-in2 .ensures in
@@ -30,8 +30,8 @@ entry-requires c κs =
 enum-told-2 : tie.Need-enum-told-2
 enum-told-2 c = search needs
 
-entry-requires-2 : tie.Need-entry-requires-2
-entry-requires-2 c κs =
+part-requires-2 : tie.Need-part-requires-2
+part-requires-2 c κs =
     let s = c .before .before in
     let ofCell = s .before .before .best-in .ensures in
     let ofPlant = s .before .best-in2 .ensures in
@@ -56,7 +56,7 @@ returns c =
     let ofCell = s .before .before .best-in .ensures in
     let ofPlant = s .before .best-in2 .ensures in
     let on = sym (c .before .enum-told .given .1) ∙ s .side-by .ensures ∙ (λ i. sideBy (ofCell i) (ofPlant i)) in
-    ((rw ofCell at (c .entry .ensures .0)) ∙ on-side _ _ _ _ _ on, (rw ofCell at (c .entry .ensures .1)) ∙ on-side _ _ _ _ _ on)
+    ((rw ofCell at (c .part .ensures .0)) ∙ on-side _ _ _ _ _ on, (rw ofCell at (c .part .ensures .1)) ∙ on-side _ _ _ _ _ on)
 
 returns-2 : tie.Need-returns-2
 returns-2 c =
@@ -64,7 +64,7 @@ returns-2 c =
     let ofCell = s .before .before .best-in .ensures in
     let ofPlant = s .before .best-in2 .ensures in
     let on = sym (c .before .enum-told2 .given .1) ∙ s .side-by .ensures ∙ (λ i. sideBy (ofCell i) (ofPlant i)) in
-    ((rw ofPlant at (c .entry2 .ensures .0)) ∙ on-side _ _ _ _ _ on, (rw ofPlant at (c .entry2 .ensures .1)) ∙ on-side _ _ _ _ _ on)
+    ((rw ofPlant at (c .part2 .ensures .0)) ∙ on-side _ _ _ _ _ on, (rw ofPlant at (c .part2 .ensures .1)) ∙ on-side _ _ _ _ _ on)
 
 returns-3 : tie.Need-returns-3
 returns-3 c =
@@ -82,9 +82,9 @@ winner-spec =
     best-in-requires-2
     side-by-requires
     enum-told
-    entry-requires
+    part-requires
     enum-told-2
-    entry-requires-2
+    part-requires-2
     enum-told-3
     sub-result
     part-result-start

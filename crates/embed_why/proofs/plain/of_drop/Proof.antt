@@ -14,7 +14,7 @@ kind-number-requires c κs = search needs
 
 returns : tie.Need-returns
 returns c =
-    let s = c .before .before .before .before .before .before .before in
+    let s = c .before .before .before .before .before .before .before .before .before in
     rw (toZ-ofZ w16 (s .args .drop .count) (record { sfits = c .struct-told .given .1 .1 .0 .1 }))
     (λ i. record {
       refusal = 0;

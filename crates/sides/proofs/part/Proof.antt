@@ -1,11 +1,11 @@
--- `sides::entry` meets its contract: the part is five bytes long.
+-- `sides::part` meets its contract: the part is five bytes long.
 -- Assumes nothing.
 use mathlib.Core.Path.{_≡_, refl}
 use Prim.Native.Nat.{_*_, _-_}
 use native.Mathlib.Omega.{arith}
 use borrow.Author.Needs.{needs}
-use Rattle.sides.proofs.entry.Statement.{statement}
-use Rattle.sides.proofs.entry.Tie as tie
+use Rattle.sides.proofs.part.Statement.{statement}
+use Rattle.sides.proofs.part.Tie as tie
 
 mul-end : tie.Need-mul-end
 mul-end c = search needs
@@ -28,6 +28,6 @@ returns c =
     let e : 5 * n - (5 * n - 5) ≡ 5 = omega arith in
     (rw e, refl)
 
-pub entry-spec : {M : Type 1} → statement M
-entry-spec =
+pub part-spec : {M : Type 1} → statement M
+part-spec =
     tie.close (tie.spec mul-end sub-start sub-result part-result-start part-result-end returns)
