@@ -4,5 +4,6 @@ pub mod Arms
 pub mod Search
 pub mod Table
 pub mod Sweep
+pub mod Places
 pub mod Signed
 pub mod Times

@@ -1,6 +1,8 @@
--- Searching the numbers below n: whether a test passes at each of them, or at some, the first that passes it, and the foremost by a value.
+-- Searching the numbers below n: whether a test passes at each of them, or at some, the first that passes it, all that pass it, and the
+-- foremost by a value.
 -- Assumes nothing.
 use mathlib.Core.Bool.{Bool, true, false, _&&_, _||_, cond}
+use mathlib.Core.List.{List, [], _∷_, _++_}
 use Prim.Native.Nat.{ℕ, zero, suc}
 
 -- the test passes at each number below n
@@ -17,6 +19,11 @@ someBelow (suc n) p = p n || someBelow n p
 unfoldable pub firstBelow : ℕ → (ℕ → Bool) → ℕ
 firstBelow zero p = 0
 firstBelow (suc n) p = cond (p 0) 0 (suc (firstBelow n (λ k. p (suc k))))
+
+-- those numbers below n that pass the test, in rising order
+unfoldable pub thoseBelow : ℕ → (ℕ → Bool) → List ℕ
+thoseBelow zero p = []
+thoseBelow (suc n) p = cond (p n) (thoseBelow n p ++ (n ∷ [])) (thoseBelow n p)
 
 -- the first number below n whose value no other's goes beyond: `within a b` says that a does not go beyond b
 unfoldable pub foremost : {A : Type 0} → (A → A → Bool) → (ℕ → A) → ℕ → ℕ

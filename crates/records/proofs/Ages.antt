@@ -1,14 +1,14 @@
 -- What several minute boundaries come to: "Several at once add up."
 -- Assumes nothing.
 use mathlib.Core.Path.{_≡_, refl, sym, ap, _∙_}
-use mathlib.Core.Bool.{Bool, true, false, not, _||_, cond}
+use mathlib.Core.Bool.{Bool, true, false, not, _&&_, _||_, cond}
 use Prim.Native.Nat.{ℕ, zero, suc, _+_, _%_, _/_, _≤_, _<_, min}
 use native.Mathlib.Omega.{arith}
-use lib.Dec.{ltb, eqb}
-use borrow.Author.Tests.{lt-ltb, le-ltb, eq-eqb, ne-eqb, eqb-true}
+use lib.Dec.{ltb, leb, eqb}
+use borrow.Author.Tests.{lt-ltb, le-ltb, leb-true, eq-eqb, ne-eqb, eqb-true}
 use Rattle.laws.specs.Times.{times}
 use Rattle.laws.proofs.Times.{times-none, times-more, times-add}
-use Rattle.laws.proofs.Tests.{Which, below, above, which, eqb-same}
+use Rattle.laws.proofs.Tests.{Which, below, above, which, and-right, eqb-same}
 use Rattle.records.specs.declared.Marks.{Marks}
 use Rattle.records.specs.Records.{plantSeen, cellSeen, isCold, ageOf, minutePassed, agedBy}
 use Rattle.records.proofs.Parts.{same-marks, older-age}
@@ -81,6 +81,9 @@ zero-same d m b t = let e = eqb-true b 0 t in go m (low-is-cold b (omega arith))
     go : (m : ℕ) → isCold b ≡ true → agedBy d m b ≡ b
     go zero c = aged-none d b
     go (suc m) c = aged-cold d (suc m) b c (omega arith) ∙ sym (eqb-true b 0 t)
+
+pub zero-still : (d m b : ℕ) → (leb 0 b && leb b 0) ≡ true → agedBy d m b ≡ b
+zero-still d m b t = zero-same d m b (eq-eqb b 0 (omega (arith, leb-true b 0 (and-right (leb 0 b) (leb b 0) t))))
 
 -- a marked one is so many minutes older while that is not too old
 pub aged-kept : (d m b : ℕ) → isCold b ≡ false → ageOf b + m ≤ min d 63 → agedBy d m b ≡ b + m
