@@ -104,6 +104,22 @@ use Rattle.tables.specs.Tables.{tablesOf}
 use Rattle.tally.proofs.Tally.empty.Reads as tally-tally-empty
 use Rattle.tally.proofs.Tally.with.Reads as tally-tally-with
 use Rattle.tally.proofs.Tally.with_verdict.Reads as tally-tally-with-verdict
+use Rattle.turns.proofs.begin.Reads as turns-begin
+use Rattle.turns.proofs.beginning_goes_to.Reads as turns-beginning-goes-to
+use Rattle.turns.proofs.ending_goes_to.Reads as turns-ending-goes-to
+use Rattle.turns.proofs.first.Reads as turns-first
+use Rattle.turns.proofs.goes_on.Reads as turns-goes-on
+use Rattle.turns.proofs.is_early.Reads as turns-is-early
+use Rattle.turns.proofs.is_sound.Reads as turns-is-sound
+use Rattle.turns.proofs.lacks_header.Reads as turns-lacks-header
+use Rattle.turns.proofs.put_end.Reads as turns-put-end
+use Rattle.turns.proofs.put_lost.Reads as turns-put-lost
+use Rattle.turns.proofs.put_missing.Reads as turns-put-missing
+use Rattle.turns.proofs.refilled.Reads as turns-refilled
+use Rattle.turns.proofs.take.Reads as turns-take
+use Rattle.turns.proofs.written.Reads as turns-written
+use Rattle.turns.specs.Turns.{beginningOf}
+use Rattle.turns.specs.Turns.{turnOf}
 use Rattle.verdicts.proofs.is_dropped.Reads as verdicts-is-dropped
 use Rattle.verdicts.proofs.number.Reads as verdicts-number
 use Rattle.verdicts.proofs.record_after.Reads as verdicts-record-after
@@ -379,6 +395,48 @@ streams-shift-one κs a x y s t p q = same p q
 
 pub streams-within-one : (κs : _) (a : _) → One (streams-within.Learnt κs a) (λ x s. x)
 streams-within-one κs a x y s t p q = same (p .1) (q .1)
+
+pub turns-first-one : (κs : _) (a : _) → One (turns-first.Learnt κs a) (λ x s. x)
+turns-first-one κs a x y s t p q = same p q
+
+pub turns-is-early-one : (κs : _) (a : _) → One (turns-is-early.Learnt κs a) (λ x s. x)
+turns-is-early-one κs a x y s t p q = same p q
+
+pub turns-refilled-one : (κs : _) (a : _) → One (turns-refilled.Learnt κs a) (λ x s. x)
+turns-refilled-one κs a x y s t p q = same p q
+
+pub turns-written-one : (κs : _) (a : _) → One (turns-written.Learnt κs a) (λ x s. x)
+turns-written-one κs a x y s t p q = same p q
+
+pub turns-is-sound-one : (κs : _) (a : _) → One (turns-is-sound.Learnt κs a) (λ x s. x)
+turns-is-sound-one κs a x y s t p q = same p q
+
+pub turns-goes-on-one : (κs : _) (a : _) → One (turns-goes-on.Learnt κs a) (λ x s. x)
+turns-goes-on-one κs a x y s t p q = same p q
+
+pub turns-lacks-header-one : (κs : _) (a : _) → One (turns-lacks-header.Learnt κs a) (λ x s. x)
+turns-lacks-header-one κs a x y s t p q = same p q
+
+pub turns-put-end-one : (κs : _) (a : _) → One (turns-put-end.Learnt κs a) (λ x s. roomOf x (now (s .0)))
+turns-put-end-one κs a x y s t p q = same p q
+
+pub turns-ending-goes-to-one : (κs : _) (a : _) → One (turns-ending-goes-to.Learnt κs a) (λ x s. x)
+turns-ending-goes-to-one κs a x y s t p q = same p q
+
+pub turns-beginning-goes-to-one : (κs : _) (a : _) → One (turns-beginning-goes-to.Learnt κs a) (λ x s. x)
+turns-beginning-goes-to-one κs a x y s t p q = same p q
+
+pub turns-put-missing-one : (κs : _) (a : _) → One (turns-put-missing.Learnt κs a) (λ x s. roomOf x (now (s .1 .0)))
+turns-put-missing-one κs a x y s t p q = same p q
+
+pub turns-put-lost-one : (κs : _) (a : _) → One (turns-put-lost.Learnt κs a) (λ x s. roomOf x (now (s .1 .0)))
+turns-put-lost-one κs a x y s t p q = same p q
+
+pub turns-begin-one : (κs : _) (a : _) → One (turns-begin.Learnt κs a) (λ x s. beginningOf x (now (s .1 .1 .0)))
+turns-begin-one κs a x y s t p q = same p q
+
+pub turns-take-one : (κs : _) (a : _) → One (turns-take.Learnt κs a) (λ x s. turnOf x (now (s .1 .0)) (now (s .1 .1 .1 .0)) (stateOf (now (s .1 .1 .1 .1 .0)) (now (s .1 .1 .1 .1 .1 .0)) (now (s .1 .1 .1 .1 .1 .1 .0)) (now (s .1 .1 .1 .1 .1 .1 .1 .0))))
+turns-take-one κs a x y s t p q = same p q
 
 pub embed-spritgrommet-factory-one : (κs : _) (a : _) → One (embed-spritgrommet-factory.Learnt κs a) (λ x s. x)
 embed-spritgrommet-factory-one κs a x y s t p q = same p q

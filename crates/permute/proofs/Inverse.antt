@@ -44,6 +44,17 @@ module _ {f g : ℕ → ℕ} (u : Undone 16 f g) (key x : ℕ) where
       rw (e, nibbles-back u 8 (right11 x) (omega arith), rotated-on x h)
 
 -- ---- the rounds
+-- backward they lead to words of 32 bits, whatever the keys are
+unrounds-lt : (keys : List ℕ) (n : ℕ) → n ≤ 8 → (x : ℕ) → x < 2 ^ 32 → unrounds n keys x < 2 ^ 32
+unfolding unrounds
+unrounds-lt keys zero h x l = l
+unrounds-lt keys (suc r) h x l =
+    unrounds-lt keys r (omega arith) (unround (box inverses r) (at keys r) x) (unround-lt (inverses-undone r h) (at keys r) x)
+
+pub D-lt : (keys : List ℕ) (x : ℕ) → x < 2 ^ 32 → D keys x < 2 ^ 32
+unfolding D
+D-lt keys = unrounds-lt keys 8 (omega arith)
+
 module _ {keys : List ℕ} (k : Keys keys) where
   rounds-lt : (n : ℕ) → n ≤ 8 → (x : ℕ) → x < 2 ^ 32 → rounds n keys x < 2 ^ 32
   unfolding rounds

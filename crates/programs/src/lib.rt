@@ -1,40 +1,44 @@
 // What the programs share that replay a capture: it is read on standard input, through fixed buffers, and what each record is due goes to
-// standard output before the next read, which may wait.
-use capture::Opened;
-use feeding::Progress;
+// standard output before the next read, which may wait. What they decide is said in `turns`: here it is read, handed on and written.
 use libc::STDERR_FILENO;
-use libc::STDIN_FILENO;
 use libc::STDOUT_FILENO;
 use outputs::Output;
+use streams::Filled;
+use turns::Stage;
 
-// How many bytes of input are held, how far the program has come, whether more bytes are wanted before it comes further, whether to go on
-// (input has not ended, no record was too long, nothing is lost), and whether all that was put out so far was written.
-struct Stage {
-    held: usize,
-    progress: Progress,
-    wants_bytes: bool,
-    goes_on: bool,
-    is_written: bool,
+// Lets others run for a moment.
+fn nap() {
+    libc::sched_yield();
 }
 
-// The same counts, with nothing put and the next record at the front of the bytes at hand.
-fn anew(progress: Progress) -> Progress {
-    Progress {
-        at: 0,
-        put: 0,
-        records: progress.records,
-        refusals: progress.refusals,
-        has_more: true,
-        is_over: progress.is_over,
+// Whether a read failed that would only have had to wait. The system tells why of the last call that failed.
+fn has_to_wait(filled: Filled) -> bool {
+    if filled.has_failed {
+        return turns::is_early(os::errno());
     }
+    false
 }
 
-// How many bytes are held after a read, where one is wanted.
-fn refill(input: &mut [u8], stage: Stage) -> usize {
+// Reads behind so many bytes that are held. Where a read would only have had to wait, it waits and reads again: that is neither an end nor a
+// failure. As in `run` below the turns are counted down, for a proved loop has to end.
+fn fill(input: &mut [u8], held: usize) -> Filled {
+    let mut filled = streams::fill(input, held);
+    let mut left = u64::MAX;
+    while 0 < left && has_to_wait(filled) {
+        nap();
+        filled = streams::fill(input, held);
+        left -= 1;
+    }
+    filled
+}
+
+// Reads, where that is wanted.
+fn refill(input: &mut [u8], stage: Stage) -> Stage {
     if stage.wants_bytes {
-        return streams::fill(input, stage.held);
+        let filled = fill(input, stage.held);
+        return turns::refilled(stage, filled.held, filled.has_failed);
     }
-    stage.held
+    stage
 }
 
 // Writes what was put.
@@ -43,17 +47,34 @@ fn write(to: i32, room: &[u8], put: usize) -> bool {
     io::write_all(to, &room[..end])
 }
 
-// Where the lines go that say how the capture ended. They are the printing program's last lines; where standard output is a capture itself
-// they go beside it.
-fn ending_goes_to(output: Output) -> i32 {
-    match output {
-        Output::Lines => STDOUT_FILENO,
-        Output::Forwarded => STDERR_FILENO,
-        Output::Reasons(wanted) => STDOUT_FILENO,
-    }
+// Puts out what the whole records at hand are due, and writes it.
+fn tell(
+    output: Output,
+    input: &mut [u8],
+    big_endian: bool,
+    room: &mut [u8],
+    records: &mut [u8],
+    tags: &mut [u32],
+    counts: &mut [i16],
+    clock: &mut u32,
+    stage: Stage,
+) -> Stage {
+    let next = turns::take(
+        output,
+        input,
+        big_endian,
+        room,
+        records,
+        tags,
+        counts,
+        clock,
+        stage,
+    );
+    let progress = next.progress;
+    turns::written(next, write(STDOUT_FILENO, room, progress.put))
 }
 
-// Reads where that is wanted, puts out what the whole records at hand are due, and writes it.
+// A read, where one is wanted, and what is due, where it goes on.
 fn turn(
     output: Output,
     input: &mut [u8],
@@ -65,30 +86,21 @@ fn turn(
     clock: &mut u32,
     stage: Stage,
 ) -> Stage {
-    let before = stage.progress;
-    let refilled = refill(input, stage);
-    let end = streams::within(input, refilled);
-    let progress = feeding::feed(
-        output,
-        &input[..end],
-        big_endian,
-        room,
-        records,
-        tags,
-        counts,
-        clock,
-        anew(before),
-    );
-    let is_written = write(STDOUT_FILENO, room, progress.put);
-    let held = streams::shift(input, progress.at, end);
-    let has_ended = stage.wants_bytes & (end <= stage.held);
-    Stage {
-        held,
-        progress,
-        wants_bytes: !progress.has_more | (held == 0),
-        goes_on: is_written & !progress.is_over & !has_ended,
-        is_written,
+    let next = refill(input, stage);
+    if turns::goes_on(next) {
+        return tell(
+            output,
+            input,
+            big_endian,
+            room,
+            records,
+            tags,
+            counts,
+            clock,
+            next,
+        );
     }
+    next
 }
 
 // A proved loop has to end, and nothing says that standard input does. So the loop counts its turns down, from a number that no run uses
@@ -104,22 +116,9 @@ fn run(
     clock: &mut u32,
     is_opened: bool,
 ) -> Stage {
-    let mut stage = Stage {
-        held: 0,
-        progress: Progress {
-            at: 0,
-            put: 0,
-            records: 0,
-            refusals: 0,
-            has_more: true,
-            is_over: false,
-        },
-        wants_bytes: true,
-        goes_on: is_opened,
-        is_written: is_opened,
-    };
+    let mut stage = turns::first(is_opened);
     let mut turns = u64::MAX;
-    while 0 < turns && stage.goes_on {
+    while 0 < turns && turns::goes_on(stage) {
         stage = turn(
             output,
             input,
@@ -136,45 +135,36 @@ fn run(
     stage
 }
 
-// The number of the record that alone is wanted, or 0.
-fn wanted_of(output: Output) -> u64 {
-    match output {
-        Output::Lines => 0,
-        Output::Forwarded => 0,
-        Output::Reasons(wanted) => wanted,
+// Says on standard error that standard input could not be read, and why: the system still knows, for nothing failed since.
+fn tell_lost(output: Output, room: &mut [u8]) {
+    let put = turns::put_lost(output, room);
+    let end = streams::within(room, put);
+    os::fail(&room[..end]);
+}
+
+// Says what is to be said beside output at the very end: that a record is missing, or that a read failed.
+fn tell_beside(output: Output, room: &mut [u8], stage: Stage) {
+    let put = turns::put_missing(output, room, stage);
+    write(STDERR_FILENO, room, put);
+    if stage.is_lost {
+        tell_lost(output, room);
     }
 }
 
-// Says that the record which alone is wanted is not among so many, where it is not.
-fn tell_missing(output: Output, records: u64) {
-    if records < wanted_of(output) {
-        io::write_all(
-            STDERR_FILENO,
-            b"why: the capture has no whole record with that number\n",
-        );
-    }
-}
-
-// Says how the capture ended: the record that was refused by 8, if one was, how many were read whole and how many refusals there were.
+// Says how the capture ended, unless something was lost: then the last line is missing.
 fn end(output: Output, room: &mut [u8], stage: Stage) {
-    let progress = stage.progress;
-    if stage.is_written {
-        let is_refused = progress.is_over | (0 < stage.held);
-        let put = endings::put_ending(room, 0, progress.records, progress.refusals, is_refused);
-        write(ending_goes_to(output), room, put);
-        tell_missing(output, progress.records);
-    }
+    let put = turns::put_end(room, stage);
+    let is_written = write(turns::ending_goes_to(output), room, put);
+    tell_beside(output, room, turns::written(stage, is_written));
 }
 
 // Replays a capture whose header was read.
-fn replay_records(output: Output, big_endian: bool, room: &mut [u8]) {
+fn replay_records(output: Output, big_endian: bool, room: &mut [u8], is_opened: bool) {
     let mut input = [0u8; 262144];
     let mut records = [0u8; 4096];
     let mut tags = [0u32; 1024];
     let mut counts = [-32768i16; 1024];
     let mut clock = 0u32;
-    let put = outputs::put_opening(output, room, 0);
-    let is_opened = write(STDOUT_FILENO, room, put);
     let stage = run(
         output,
         &mut input,
@@ -189,19 +179,43 @@ fn replay_records(output: Output, big_endian: bool, room: &mut [u8]) {
     end(output, room, stage);
 }
 
+// Reads the capture's header, or what there is of it. A read brings a byte or more, or is the last: so many turns are enough.
+fn read_header(header: &mut [u8]) -> Stage {
+    let mut stage = turns::first(true);
+    let mut left = 24u64;
+    while 0 < left && turns::lacks_header(stage) {
+        stage = refill(header, stage);
+        left -= 1;
+    }
+    stage
+}
+
+// Begins by the header's bytes, and goes on where it opens.
+fn replay_from(output: Output, header: &[u8], room: &mut [u8], stage: Stage) {
+    let begun = turns::begin(output, header, room);
+    let is_written = write(
+        turns::beginning_goes_to(output, begun.is_open),
+        room,
+        begun.put,
+    );
+    if begun.is_open {
+        replay_records(output, begun.big_endian, room, is_written);
+    } else {
+        tell_beside(output, room, turns::written(stage, is_written));
+    }
+}
+
 // Replays the capture on standard input, and puts out what a program is to put out. What it reads and writes no contract can say; it
 // answers nothing, and ends where standard input ends, where the capture is refused by 7 or a record by 8, or where something cannot be
-// written: then it ends without a word, so that the last line is missing.
+// read or written: then the last line is missing, and of a read that failed a sentence on standard error tells why.
 pub fn replay(output: Output) {
     let mut room = io::large_buffer();
     let mut header = [0u8; 24];
-    let got = io::read_full(STDIN_FILENO, &mut header);
-    match capture::open(&header[..got]) {
-        Opened::Refused(number) => {
-            let put = endings::put_refused_header(&mut room, 0, number);
-            write(ending_goes_to(output), &room, put);
-            tell_missing(output, 0);
-        }
-        Opened::Open(cursor) => replay_records(output, cursor.big_endian, &mut room),
+    let stage = read_header(&mut header);
+    let end = streams::within(&header, stage.held);
+    if turns::is_sound(stage) {
+        replay_from(output, &header[..end], &mut room, stage);
+    } else {
+        tell_beside(output, &mut room, stage);
     }
 }
