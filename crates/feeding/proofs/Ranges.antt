@@ -12,7 +12,6 @@ use lib.IntN.{ℤ, pos, _+ℤ_, _-ℤ_, natAbs}
 use lib.ListN.{length, getD, take, drop, set, replicate}
 use lib.Seq.{getD-drop}
 use lib.Signed.{leZ}
-use borrow.Author.Tests.{ltb-true}
 use Rattle.laws.proofs.Signed.{leZ-true, sum-is, difference-is, one-part, size}
 use Rattle.words.specs.Words.{twoAt}
 use Rattle.words.specs.Layouts.{Bytes, two, four}
@@ -25,13 +24,10 @@ use Rattle.places.specs.Places.{addressOf}
 use Rattle.packet.specs.declared.Header.{Header}
 use Rattle.packet.specs.Header.{wrong, protocol, later, usable, needed, headerLength, headerRefusal, portAt, transportOf, headerOf}
 use Rattle.packet.specs.Kinds.{ported}
-use Rattle.sides.specs.declared.Side.{Side}
-use Rattle.sides.specs.declared.Side.the-variants.{Cell, Plant, Neither}
-use Rattle.sides.specs.declared.Winning.{Winning}
 use Rattle.sides.specs.declared.Direction.{Direction}
 use Rattle.sides.specs.declared.Direction.the-variants.{FromCell, FromPlant, NotOurs}
-use Rattle.sides.specs.Lists.{bestIn, decided, winningOf, badList}
-use Rattle.sides.proofs.Steps.{in-list}
+use Rattle.sides.specs.Lists.{badList}
+use Rattle.sides.proofs.Winners.{sized}
 use Rattle.counts.specs.Counts.{larger, smaller, loweredBy, raisedBy, decayedBy}
 use Rattle.counts.proofs.Counts.{fell}
 use Rattle.entries.specs.declared.Replaced.{Replaced}
@@ -54,7 +50,7 @@ use Rattle.rulings.specs.declared.answers.Answer.the-variants as answer
 use Rattle.rulings.specs.Rules.{Rules, document01}
 use Rattle.rulings.specs.Rulings.{countWritten, countedBy, verdictBy, rulingOf}
 use Rattle.gateway.specs.Packets.{Outcome, spotOf, recordMet, countMet, rulingAt, entered, replacementOf, ours, directionIn, byDirection}
-use Rattle.gateway.specs.Calls.{State, After, orElse, bySizes, unlessRefused, onward, packetRefusal, accepted, judged}
+use Rattle.gateway.specs.Calls.{State, After, numberOr, bySizes, unlessRefused, onward, packetRefusal, accepted, judged}
 use Rattle.gateway.specs.Why.{metIn, dropOf, whyOurs, whyByDirection, unlessRefusedBy, whyOf}
 use Rattle.lines.proofs.Whole.{InRange}
 use Rattle.explanations.proofs.Short.{DropSized, ExplanationSized}
@@ -224,7 +220,7 @@ module _ (settings : Settings) (floor-short : Short (settings .floor)) where
   onward-short time before all = all-mapped Short (decayedBy _) (decayed-short _) (before .tables .counts) all
 
 -- ---- refusals have one digit
-or-few : (n m : ℕ) → n < 10 → m < 10 → orElse n m < 10
+or-few : (n m : ℕ) → n < 10 → m < 10 → numberOr n m < 10
 or-few zero m h g = g
 or-few (suc n) m h g = h
 
@@ -291,23 +287,8 @@ byte-taken (x ∷ l) bytes (suc n) (suc k) = byte-taken l (λ j. bytes (suc j)) 
 pub bytes-taken : (l : List ℕ) → Bytes l → (n : ℕ) → Bytes (take n l)
 bytes-taken l bytes n = λ k. byte-taken l bytes n k
 
--- the number of a winning entry: no list has so many entries
-winning-few : (cell plant : List ℕ) (address : ℕ) → 5 * winningOf cell plant address .number ≤ length cell + length plant
-unfolding decided
-winning-few cell plant address = go (ltb (bestIn cell address .rank) (bestIn plant address .rank)) (ltb 0 (bestIn cell address .rank)) refl refl
-  where
-    of : Side → ℕ → Winning
-    of side number = record { side = side; number = number }
-
-    go : (less held : Bool) → ltb (bestIn cell address .rank) (bestIn plant address .rank) ≡ less → ltb 0 (bestIn cell address .rank) ≡ held
-        → 5 * cond {A = Winning} less (of Plant (bestIn plant address .number)) (cond held (of Cell (bestIn cell address .number)) (of Neither 0)) .number
-        ≤ length cell + length plant
-    go true held e f = omega (arith, in-list plant address (omega (arith, ltb-true (bestIn cell address .rank) (bestIn plant address .rank) e)) .1)
-    go false true e f = omega (arith, in-list cell address (ltb-true 0 (bestIn cell address .rank) f) .1)
-    go false false e f = omega arith
-
 module _ (settings : Settings) (floor-short : Short (settings .floor)) (threshold-few : settings .threshold < 2 ^ 16) (cell plant : List ℕ)
-    (few : length cell + length plant < 2 ^ 64) where
+    (cell-bytes : Bytes cell) (plant-bytes : Bytes plant) (cell-few : length cell < 2 ^ 64) (plant-few : length plant < 2 ^ 64) where
   port-few : (l : List ℕ) → Bytes l → (at : ℕ) → portAt l at < 2 ^ 16
   port-few l bytes at = go (ported (protocol l) (later l))
     where
@@ -336,8 +317,8 @@ module _ (settings : Settings) (floor-short : Short (settings .floor)) (threshol
           protocol = bytes 9;
           source-port = port-few l bytes (headerLength l);
           destination-port = port-few l bytes (headerLength l + 2);
-          cell-entry = omega (arith, winning-few cell plant (headerOf l .source), few);
-          plant-entry = omega (arith, winning-few cell plant (headerOf l .destination), few);
+          cell-entry = sized cell plant cell-bytes plant-bytes (headerOf l .source) cell-few plant-few;
+          plant-entry = sized cell plant cell-bytes plant-bytes (headerOf l .destination) cell-few plant-few;
         }
 
     met-fits : ExplanationSized (whyOurs document01 settings cell plant (headerOf l) fromPlant tables)

@@ -66,17 +66,17 @@ module _ (before : State) (records : length (before .tables .records) ≡ 4096) 
   stepNumber bytes Long = 8
   stepNumber bytes (Whole r) =
       frameNumber (insideOf (bytesOf bytes r))
-      (orElse (cond (ltb (r .seconds) (before .clock)) 4 0) (headerRefusal (carried (bytesOf bytes r))))
+      (numberOr (cond (ltb (r .seconds) (before .clock)) 4 0) (headerRefusal (carried (bytesOf bytes r))))
 
   frame-refusal : (time : ℕ) (frame : List ℕ)
       → refusalTold (frameJudged document01 programSettings cellList plantList time frame before .answer)
-      ≡ frameNumber (insideOf frame) (orElse (cond (ltb time (before .clock)) 4 0) (headerRefusal (carried frame)))
+      ≡ frameNumber (insideOf frame) (numberOr (cond (ltb time (before .clock)) 4 0) (headerRefusal (carried frame)))
   unfolding frameJudged
   frame-refusal time frame = go (insideOf frame)
     where
       go : (inside : Inside)
           → refusalTold (byInside inside before (judged document01 programSettings cellList plantList time (carried frame) before) .answer)
-          ≡ frameNumber inside (orElse (cond (ltb time (before .clock)) 4 0) (headerRefusal (carried frame)))
+          ≡ frameNumber inside (numberOr (cond (ltb time (before .clock)) 4 0) (headerRefusal (carried frame)))
       go Short = refl
       go Packet = by-four-or-header time before records tags counts (carried frame)
       go Other = refl
@@ -109,4 +109,4 @@ module _ (before : State) (records : length (before .tables .records) ≡ 4096) 
       (length-replicate {A = ℕ} (length (before .tables .tags)) 0 ∙ tags)
       (length-replicate (length (before .tables .counts)) (minus 32768) ∙ counts)
       time frame
-      ∙ ap (λ (b : Bool). frameNumber before records tags counts (insideOf frame) (orElse (cond b 4 0) (headerRefusal (carried frame)))) (le-ltb time time (omega arith))
+      ∙ ap (λ (b : Bool). frameNumber before records tags counts (insideOf frame) (numberOr (cond b 4 0) (headerRefusal (carried frame)))) (le-ltb time time (omega arith))
