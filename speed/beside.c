@@ -20,9 +20,11 @@ struct trial {
 };
 
 static const struct trial TRIALS[] = {
-    {16, 0, 0},       {16, 1000, 0},    {4096, 0, 0},     {4096, 1000, 0},   {LARGEST, 0, 0},   {LARGEST, 1, 0},
-    {LARGEST, 5, 0},  {LARGEST, 10, 0}, {LARGEST, 50, 0}, {LARGEST, 200, 0}, {LARGEST, 1000, 0}, {LARGEST, 0, 1},
-    {LARGEST, 1, 1},  {LARGEST, 5, 1},  {LARGEST, 10, 1}, {LARGEST, 50, 1},  {LARGEST, 200, 1},  {LARGEST, 1000, 1},
+    {16, 0, 0},        {16, 500, 0},       {16, 1000, 0},     {4096, 0, 0},      {4096, 10, 0},      {4096, 200, 0},
+    {4096, 500, 0},    {4096, 1000, 0},    {LARGEST, 0, 0},   {LARGEST, 1, 0},   {LARGEST, 5, 0},    {LARGEST, 10, 0},
+    {LARGEST, 50, 0},  {LARGEST, 200, 0},  {LARGEST, 500, 0}, {LARGEST, 800, 0}, {LARGEST, 1000, 0}, {LARGEST, 0, 1},
+    {LARGEST, 1, 1},   {LARGEST, 5, 1},    {LARGEST, 10, 1},  {LARGEST, 50, 1},  {LARGEST, 200, 1},  {LARGEST, 500, 1},
+    {LARGEST, 800, 1}, {LARGEST, 1000, 1},
 };
 
 static double seconds(void) {

@@ -30,7 +30,7 @@ const NOTES: &str = "\
 pub const PROGRAMS: [(&str, fn(&mut [u8])); 3] =
     [("ours", pass_ours), ("plain Rust", pass_plain), ("plain Rust, by parts", pass_by_parts)];
 
-fn marked(records: usize, percent: u32) -> Vec<u8> {
+pub fn marked(records: usize, percent: u32) -> Vec<u8> {
     let mut random = Random(3);
     let mut record = || match random.below(100) < percent {
         true => 64 * (1 + random.below(3) as u8) + random.below(63) as u8,
@@ -65,14 +65,14 @@ fn pass_by_parts(records: &mut [u8]) {
 }
 
 /// A table that starts where a line of memory does.
-struct Lined {
+pub struct Lined {
     room: Vec<u8>,
     from: usize,
     length: usize,
 }
 
 impl Lined {
-    fn of(records: &[u8]) -> Lined {
+    pub fn of(records: &[u8]) -> Lined {
         let room = vec![0; records.len() + LINE];
         let from = room.as_ptr().align_offset(LINE);
         let mut lined = Lined { room, from, length: records.len() };
@@ -80,7 +80,7 @@ impl Lined {
         lined
     }
 
-    fn records(&mut self) -> &mut [u8] {
+    pub fn records(&mut self) -> &mut [u8] {
         &mut self.room[self.from..self.from + self.length]
     }
 }

@@ -5,6 +5,7 @@ use crate::cipher;
 use crate::judging::{self, judge_some};
 use crate::ours::{self, TIMED};
 use crate::stopwatch::{commas, head, row};
+use crate::stores;
 use crate::trace::KINDS;
 use std::hint::black_box;
 use std::process::{Command, Stdio};
@@ -36,6 +37,7 @@ pub fn work(what: &str, numbers: &[&str]) {
         ("encrypt", 1) => encrypt_often(times, cipher::encrypt),
         ("encrypt", _) => encrypt_often(times, cipher::encrypt_in_c),
         ("judge", _) => judge_some(KINDS[which], program, times),
+        ("stores", _) => stores::sweep_between_fences(which as u32, program),
         _ => sweep_some(which as u32, program, times),
     }
 }
@@ -90,5 +92,5 @@ pub fn put_tables() {
     }
     let columns = ["marked", "program", "instructions a record", "stores", "lines written"];
     head("Instructions and stores of a minute boundary", BOUNDARY_NOTES, &columns);
-    [0, 1, 20, 100].into_iter().for_each(put_boundary);
+    [0, 1, 20, 50, 100].into_iter().for_each(put_boundary);
 }

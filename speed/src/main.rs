@@ -10,6 +10,7 @@ mod permutation;
 mod plain;
 mod programs;
 mod stopwatch;
+mod stores;
 mod trace;
 
 fn main() {
@@ -29,6 +30,7 @@ fn put(table: &str) {
         "4" => programs::put_table(&programs::PRINTING),
         "5" => programs::put_table(&programs::FORWARDING),
         "counts" => counts::put_tables(),
+        "stores" => stores::put_table(),
         _ => panic!("there is no table {table}"),
     }
 }

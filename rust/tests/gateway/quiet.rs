@@ -1,5 +1,5 @@
-//! What a minute boundary does not store to (document 02, K3): the records stand in pages of memory that may only be read, where none of
-//! them differs afterwards. A store to such a page ends the tests with a fault, signal 11; with `-- --test-threads=1 --nocapture` the last
+//! What a minute boundary does not store to (document 02, K3): records that do not differ afterwards stand in pages of memory that may only
+//! be read. A store to such a page ends the tests with a fault, signal 11; with `-- --test-threads=1 --nocapture` the last
 //! test named is the one.
 
 use second::samples;
@@ -123,18 +123,33 @@ fn only_pages_with_a_record_that_differs_are_stored_to() {
     assert!(records.values() == after);
 }
 
+/// A table with an edge in it: on one side all records are 0, on the other every so manieth differs, the one at the edge among them. And the
+/// same table one boundary later.
+fn table_with_edge(size: usize, edge: usize, zeros_first: bool, every: usize) -> (Vec<u8>, Vec<u8>) {
+    let from_edge = |slot: usize| match zeros_first {
+        true => slot.checked_sub(edge),
+        false => edge.checked_sub(slot + 1),
+    };
+    let pair = |slot| match from_edge(slot) {
+        Some(far) if far % every == 0 => DIFFERING[far / every % DIFFERING.len()],
+        _ => (0, 0),
+    };
+    (0..size).map(pair).unzip()
+}
+
 #[test]
-fn at_most_128_records_are_stored_to_where_one_differs() {
-    // The second page begins so many times 128 records after the first record, and one record differs, the last before that edge or the
-    // first after it: a sweep that took more than 128 at once would store across the edge for some of these tables.
-    for edge in (128..PAGE).step_by(128) {
-        for (slot, other_side) in [(edge - 1, 1..3), (edge, 0..1)] {
-            let (mut before, mut after) = (vec![0; 8_192], vec![0; 8_192]);
-            (before[slot], after[slot]) = DIFFERING[edge / 128 % 5];
-            let records = Records::after(PAGE - edge, &before);
-            records.only_read(other_side);
-            records.pass(59, 60);
-            assert!(records.values() == after);
+fn zeros_beside_records_that_differ_are_not_stored_to() {
+    // The edge is where the second page begins, at every place in a part and between two parts. The side with zeros may only be read, so
+    // that a sweep which stores to a zero because a neighbour differs does not survive this.
+    for (size, step) in [(16, 1), (64, 1), (256, 1), (8_192, 61)] {
+        for edge in (1..size.min(PAGE)).step_by(step) {
+            for (zeros_first, every) in [1, 2, 3, 50].into_iter().flat_map(|every| [(true, every), (false, every)]) {
+                let (before, after) = table_with_edge(size, edge, zeros_first, every);
+                let records = Records::after(PAGE - edge, &before);
+                records.only_read(if zeros_first { 0..1 } else { 1..records.pages() });
+                records.pass(59, 60);
+                assert!(records.values() == after, "{size} records, edge at {edge}, {zeros_first}, {every}");
+            }
         }
     }
 }
