@@ -1,10 +1,15 @@
 /* Asks a gateway why it would drop a packet: a reset from the cell that belongs to no connection, and prints the verdict and the facts that
- * would have let it through. docs/WHY.md says what they mean.
+ * would have let it through, and the entries of the side lists that decided. docs/WHY.md says what they mean.
  *   rt staticlib embed && rt staticlib embed_why
  *   cc -Iinclude examples/why.c target/staticlib/libembed.a target/staticlib/libembed_why.a -o why && ./why */
 #include "spritgrommet.h"
 
 #include <stdio.h>
+
+static void print_entry(const char *list, struct spritgrommet_entry entry) {
+    printf("%s entry %d: %d.%d.%d.%d/%d\n", list, (int)entry.number, (int)(entry.address >> 24), (int)(entry.address >> 16 & 255),
+           (int)(entry.address >> 8 & 255), (int)(entry.address & 255), entry.prefix);
+}
 
 int main(void) {
     static uint8_t records[16];
@@ -25,5 +30,7 @@ int main(void) {
     printf("refusal %d verdict %d count %d T %d:%s%s%s%s\n", reason.refusal, reason.verdict, reason.count, reason.threshold,
            reason.by_count ? " count" : "", reason.by_plant_mark ? " plant-mark" : "", reason.by_cell_mark ? " cell-mark" : "",
            reason.by_kind ? " kind" : "");
+    print_entry("cell", reason.cell_entry);
+    print_entry("plant", reason.plant_entry);
     return 0;
 }

@@ -117,7 +117,7 @@ struct spritgrommet_reason {
 /* The entry of the side lists that decides on an address. */
 struct spritgrommet_winner {
     uint8_t side;  /* 1: it stands in the cell list. 2: in the plant list. 0: neither holds the address. */
-    size_t number; /* which entry of that list, from 1; 0 where neither holds the address */
+    size_t number; /* which entry of that list, from 1: its five bytes start 5 * (number - 1) into it; 0 where neither holds the address */
 };
 
 /* A tally: one total for each verdict, 0 to 6, that stops at 4,294,967,295. */

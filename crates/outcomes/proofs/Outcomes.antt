@@ -65,7 +65,6 @@ use Rattle.lines.proofs.put_signed.Reads as lines-put-signed
 use Rattle.lines.proofs.put_text.Reads as lines-put-text
 use Rattle.lines.specs.Room.{roomOf}
 use Rattle.outputs.proofs.asks_why.Reads as outputs-asks-why
-use Rattle.outputs.proofs.is_forwarded.Reads as outputs-is-forwarded
 use Rattle.outputs.proofs.put_opening.Reads as outputs-put-opening
 use Rattle.outputs.proofs.put_told.Reads as outputs-put-told
 use Rattle.packet.proofs.Header.port.Reads as packet-header-port
@@ -368,9 +367,6 @@ replay-next-one κs a x y s t p q = same p q
 
 pub outputs-asks-why-one : (κs : _) (a : _) → One (outputs-asks-why.Learnt κs a) (λ x s. x)
 outputs-asks-why-one κs a x y s t p q = same p q
-
-pub outputs-is-forwarded-one : (κs : _) (a : _) → One (outputs-is-forwarded.Learnt κs a) (λ x s. x)
-outputs-is-forwarded-one κs a x y s t p q = same p q
 
 pub outputs-put-told-one : (κs : _) (a : _) → One (outputs-put-told.Learnt κs a) (λ x s. roomOf x (now (s .1 .0)))
 outputs-put-told-one κs a x y s t p q = same p q

@@ -30,7 +30,7 @@ pub fn asks_why(output: Output) -> bool
 }
 
 // Whether an answer lets the packet through. What is not ours goes through; what is refused does not.
-pub fn is_forwarded(answer: Answer) -> bool
+fn is_forwarded(answer: Answer) -> bool
     ensures { λ r. ⌜ r ≡ forwardedTold answer ⌝ }
 {
     match answer {
