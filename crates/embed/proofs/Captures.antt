@@ -19,7 +19,7 @@ pub next-told : (answer : Reading) → plainNext answer .refusal ≡ recordRefus
 next-told reading.End = refl
 next-told reading.Cut = refl
 next-told reading.Long = refl
-next-told (reading.Whole record) = refl
+next-told (reading.Whole read) = refl
 
 pub written-told : (answer : Written) → plainWritten answer .refusal ≡ writeRefusal answer
 written-told (written.Refused number) = refl
