@@ -14,7 +14,7 @@ const TABLES: [(usize, u32); 7] =
 const BYTES: usize = 65_536;
 /// Boundaries that each table passes in a round.
 const MINUTES: u32 = 16;
-/// The bytes that memory takes at a time, and the records that ours stores to or leaves alone together.
+/// The bytes that memory takes at a time, and the records that a plain loop stores to or leaves alone together.
 const LINE: usize = 64;
 const PART: usize = 128;
 const SETTINGS: Settings = Settings { dmiss: 3_600, dconn: 62, ..TIMED };
@@ -24,7 +24,8 @@ const NOTES: &str = "\
     expire during the round. Tables below 65,536 records stand one behind the other in so many bytes, and are gone over in \
     turn. Dconn 62, Dmiss 3,600, one line of entries. Plain Rust stores to every record, as ours did before K3, when it was a \
     tenth faster than ours from 4,096 records on; by parts, which is a loop alone, it leaves 128 of them alone where all are \
-    0, as ours does. Both are called too, once a table. memcpy copies the same bytes elsewhere, warm as well.";
+    0, and stores to all of the others. Both are called too, once a table. memcpy copies the same bytes elsewhere, warm as \
+    well.";
 
 /// Who takes a table over a boundary.
 pub const PROGRAMS: [(&str, fn(&mut [u8])); 3] =
