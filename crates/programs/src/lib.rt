@@ -2,13 +2,29 @@
 // standard output before the next read, which may wait. What they decide is said in `turns`: here it is read, handed on and written.
 use libc::STDERR_FILENO;
 use libc::STDOUT_FILENO;
+use libc::types::timespec;
 use outputs::Output;
 use streams::Filled;
 use turns::Stage;
 
-// Lets others run for a moment.
-fn nap() {
-    libc::sched_yield();
+// Rests for the time asked, or until a signal comes. A thin function, for its proof is a walk by hand: no covered form lends a struct.
+fn rest(asked: timespec, left: timespec) {
+    let mut remaining = left;
+    libc::nanosleep(&asked, &mut remaining);
+}
+
+// Waits for two milliseconds.
+fn pause() {
+    rest(
+        timespec {
+            tv_sec: 0,
+            tv_nsec: 2000000,
+        },
+        timespec {
+            tv_sec: 0,
+            tv_nsec: 0,
+        },
+    );
 }
 
 // Whether a read failed that would only have had to wait. The system tells why of the last call that failed.
@@ -25,7 +41,7 @@ fn fill(input: &mut [u8], held: usize) -> Filled {
     let mut filled = streams::fill(input, held);
     let mut left = u64::MAX;
     while 0 < left && has_to_wait(filled) {
-        nap();
+        pause();
         filled = streams::fill(input, held);
         left -= 1;
     }

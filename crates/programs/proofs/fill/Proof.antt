@@ -22,8 +22,8 @@ loop-holds c = search needs
 has-to-wait-requires : tie.Need-has-to-wait-requires Inv-loop μ-loop
 has-to-wait-requires c κs = search needs
 
-nap-requires : tie.Need-nap-requires Inv-loop μ-loop
-nap-requires c κs = search needs
+pause-requires : tie.Need-pause-requires Inv-loop μ-loop
+pause-requires c κs = search needs
 
 fill-requires-2 : tie.Need-fill-requires-2 Inv-loop μ-loop
 fill-requires-2 c κs = search needs
@@ -58,7 +58,7 @@ fill-spec =
     fill-requires
     loop-holds
     has-to-wait-requires
-    nap-requires
+    pause-requires
     fill-requires-2
     sub-left
     loop-less
