@@ -17,17 +17,18 @@ use Rattle.words.specs.Words.{twoAt}
 use Rattle.words.specs.Layouts.{Bytes, two, four}
 use Rattle.words.proofs.Layouts.{in-range}
 use Rattle.settings.specs.declared.Settings.{Settings}
-use Rattle.records.specs.Records.{marksOf, isUnmarked}
+use Rattle.settings.specs.Settings.{badSettings}
 use Rattle.permute.proofs.Inverse.{D-lt}
 use Rattle.places.specs.declared.Place.{Place}
 use Rattle.places.specs.Places.{addressOf}
-use Rattle.packet.specs.declared.Header.{Header}
-use Rattle.packet.specs.Header.{wrong, protocol, later, usable, needed, headerLength, headerRefusal, portAt, transportOf, headerOf}
-use Rattle.packet.specs.Kinds.{ported}
 use Rattle.sides.specs.declared.Direction.{Direction}
 use Rattle.sides.specs.declared.Direction.the-variants.{FromCell, FromPlant, NotOurs}
 use Rattle.sides.specs.Lists.{badList}
 use Rattle.sides.proofs.Winners.{sized}
+use Rattle.packet.specs.declared.Header.{Header}
+use Rattle.packet.specs.Header.{wrong, protocol, later, usable, needed, headerLength, headerRefusal, portAt, transportOf, headerOf}
+use Rattle.packet.specs.Kinds.{ported}
+use Rattle.records.specs.Records.{marksOf, isUnmarked}
 use Rattle.counts.specs.Counts.{larger, smaller, loweredBy, raisedBy, decayedBy}
 use Rattle.counts.proofs.Counts.{fell}
 use Rattle.entries.specs.declared.Replaced.{Replaced}
@@ -37,8 +38,6 @@ use Rattle.entries.proofs.Readback.{cases}
 use Rattle.tables.specs.Tables.{Tables}
 use Rattle.tables.specs.Sizes.{badSizes}
 use Rattle.tables.specs.Clock.{timePassed}
-use Rattle.settings.specs.Settings.{badSettings}
-use Rattle.refusals.specs.Refusals.{firstRefusal, earlyRefusal}
 use Rattle.verdicts.specs.declared.Verdict.{Verdict}
 use Rattle.verdicts.specs.declared.Verdict.the-variants.{Uncounted, CreditOfOne, CreditOfTwo, FreshContact, Hygiene, Blocked}
 use Rattle.verdicts.specs.Verdicts.{isForwarded}
@@ -49,11 +48,12 @@ use Rattle.rulings.specs.declared.answers.Answer.{Answer}
 use Rattle.rulings.specs.declared.answers.Answer.the-variants as answer
 use Rattle.rulings.specs.Rules.{Rules, document01}
 use Rattle.rulings.specs.Rulings.{countWritten, countedBy, verdictBy, rulingOf}
+use Rattle.lines.proofs.Whole.{InRange}
+use Rattle.explanations.proofs.Short.{DropSized, ExplanationSized}
+use Rattle.refusals.specs.Refusals.{firstRefusal, earlyRefusal}
 use Rattle.gateway.specs.Packets.{Outcome, spotOf, recordMet, countMet, rulingAt, entered, replacementOf, ours, directionIn, byDirection}
 use Rattle.gateway.specs.Calls.{State, After, numberOr, bySizes, unlessRefused, onward, packetRefusal, accepted, judged}
 use Rattle.gateway.specs.Why.{metIn, dropOf, whyOurs, whyByDirection, unlessRefusedBy, whyOf}
-use Rattle.lines.proofs.Whole.{InRange}
-use Rattle.explanations.proofs.Short.{DropSized, ExplanationSized}
 
 -- ---- lists each of whose elements is so
 module _ {A : Type 0} (P : A → Type 0) where

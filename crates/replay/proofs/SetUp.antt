@@ -14,22 +14,22 @@ use Rattle.laws.specs.Search.{every}
 use Rattle.settings.specs.Settings.{badSettings}
 use Rattle.sides.specs.Lists.{badList}
 use Rattle.packet.specs.Header.{headerRefusal}
-use Rattle.tables.specs.Sizes.{badSizes}
 use Rattle.capture.specs.declared.Cursor.{Cursor}
 use Rattle.capture.specs.declared.Record.{Record}
 use Rattle.capture.specs.declared.Reading.{Reading}
 use Rattle.capture.specs.declared.Reading.the-variants.{End, Cut, Long, Whole}
 use Rattle.capture.specs.Capture.{nextOf}
 use Rattle.capture.specs.Whole.{bytesOf}
-use Rattle.cold.specs.Cold.{coldTables}
-use Rattle.frames.specs.declared.Inside.{Inside}
-use Rattle.frames.specs.declared.Inside.the-variants.{Short, Packet, Other}
-use Rattle.frames.specs.Frames.{insideOf, carried, byInside, frameJudged}
+use Rattle.tables.specs.Sizes.{badSizes}
 use Rattle.rulings.specs.Answers.{refusalTold}
 use Rattle.rulings.specs.Rules.{document01}
+use Rattle.cold.specs.Cold.{coldTables}
 use Rattle.refusals.specs.Refusals.{startRefusal, earlyRefusal}
 use Rattle.gateway.specs.Calls.{State, numberOr, packetRefusal, coldState, started, judged}
 use Rattle.gateway.proofs.Refusals.{packet-told}
+use Rattle.frames.specs.declared.Inside.{Inside}
+use Rattle.frames.specs.declared.Inside.the-variants.{Short, Packet, Other}
+use Rattle.frames.specs.Frames.{insideOf, carried, byInside, frameJudged}
 use Rattle.replay.specs.Replay.{programSettings, cellList, plantList, startedFirst, recordJudged, byReading, stepped, stepRefusal}
 
 -- "a cold table of 4,096 records and 256 lines"

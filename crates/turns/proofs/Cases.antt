@@ -15,8 +15,8 @@ use Rattle.laws.proofs.Tests.{cond-at, or-no}
 use Rattle.capture.specs.declared.Cursor.{Cursor}
 use Rattle.capture.specs.declared.Opened.{Opened}
 use Rattle.capture.specs.declared.Opened.the-variants.{Refused, Open}
-use Rattle.gateway.specs.Calls.{State}
 use Rattle.lines.specs.Room.{Room, roomOf, put}
+use Rattle.gateway.specs.Calls.{State}
 use Rattle.outputs.specs.declared.Output.{Output}
 use Rattle.outputs.specs.Outputs.{openingPut}
 use Rattle.endings.specs.Endings.{ending, headerRefused}

@@ -5,50 +5,46 @@ use mathlib.Core.Bool.{Bool, true, false, cond, not, _&&_, _||_, false≢true}
 use mathlib.Core.List.{List, [], _∷_, _++_, append-nil}
 use mathlib.Core.Logic.{inr, ⊎-elim}
 use mathlib.Core.Path.{_≡_, refl, sym, ap, subst, _∙_}
-use Prim.Native.Nat.{ℕ, min, _+_, _*_, _^_, _≤_, _<_}
+use Prim.Native.Nat.{ℕ, min, _+_, _-_, _*_, _^_, _≤_, _<_}
 use native.Mathlib.Omega.{arith}
 use lib.Dec.{eqb}
-use lib.ListN.{length, getD, take, drop, length-append, length-take, length-drop, List·getD-append}
+use lib.ListN.{length, getD, take, drop, replicate, length-replicate, length-append, length-take, length-drop, List·getD-append}
 use lib.Seq.{take-all, take-append-le, take-append-seam, length-take-le}
 use native.Mathlib.Nat.{zero-add}
 use borrow.Author.Tests.{le-ltb, le-leb, lt-leb, leb-true, leb-false}
 use Rattle.laws.proofs.Tests.{cond-at}
 use Rattle.words.specs.Layouts.{Bytes, numbersAt}
-use Rattle.words.proofs.Layouts.{numbers-alike}
 use Rattle.words.specs.Words.{stored}
+use Rattle.words.proofs.Layouts.{numbers-alike}
 use Rattle.words.proofs.Words.{stored-length}
 use Rattle.capture.specs.Format.{magic, headerWords}
 use Rattle.capture.specs.declared.Cursor.{Cursor}
 use Rattle.capture.specs.declared.Opened.{Opened}
 use Rattle.capture.specs.declared.Opened.the-variants.{Refused, Open}
 use Rattle.capture.specs.declared.Reading.{Reading}
-use Rattle.capture.specs.Capture.{bigEndian, badWords, badHeader, openedOf, recordRefusal}
+use Rattle.capture.specs.Capture.{bigEndian, badWords, badHeader, openedOf, recordRefusal, openRefusal}
 use Rattle.capture.specs.Whole.{courseOf}
+use Rattle.capture.specs.declared.Record.{Record}
 use Rattle.capture.proofs.Readings.{at-the-end}
 use Rattle.capture.proofs.Whole.{says}
+use Rattle.rulings.specs.declared.answers.Answer.the-variants as answer
 use Rattle.lines.specs.Room.{Room, roomOf, put}
+use Rattle.lines.specs.Letters.{text}
+use Rattle.lines.specs.Lines.{line, lastLine}
+use Rattle.lines.proofs.Whole.{whole, line-short, last-line-short}
 use Rattle.outputs.specs.declared.Output.{Output}
 use Rattle.outputs.specs.declared.Output.the-variants.{Lines, Forwarded, Reasons}
 use Rattle.outputs.specs.Outputs.{openingOf, openingPut}
-use Rattle.endings.specs.Endings.{ending, headerRefused}
-use Rattle.feeding.specs.Whole.{Told, toldIn, atFirst, toldOfCapture, endingOf, outputOf, refusedOutput, openedOutput, programTables, programOutput}
+use Rattle.outputs.proofs.Whole.{Stored, opening-whole}
+use Rattle.endings.specs.Endings.{ending, headerRefused, oneMore}
+use Rattle.feeding.specs.Whole.{Told, toldIn, atFirst, toldOfCapture, endingOf, outputOf, refusedOutput, openedOutput, programTables, programOutput, answered, toldNext}
+use Rattle.feeding.specs.Feeding.{isRefused}
 use Rattle.feeding.proofs.Sizes.{AllSized, program-sized}
 use Rattle.feeding.proofs.Whole.{isLong, isWhole}
-use Rattle.turns.specs.declared.Stage.{Stage}
-use Rattle.turns.specs.Turns.{isSound, endsRefused, writtenStage, endingDue, endingStream, isMissing, missingWords, missingDue, Beginning, begunBy}
-use Rattle.turns.specs.Runs.{Run, joined, AllFull, headed, putIn, putOut, isTaken, run, onOutput, Said, lostText, saidBeside, saidLast, ended, firstRun, replayed, program, besideOf, openedBeside, programBeside}
-use Rattle.lines.proofs.Whole.{whole, line-short, last-line-short}
-use Rattle.lines.specs.Letters.{text}
-use Rattle.lines.specs.Lines.{line, lastLine}
-use Rattle.rulings.specs.declared.answers.Answer.the-variants as answer
-use Rattle.outputs.proofs.Whole.{Stored, opening-whole}
-use Rattle.endings.specs.Endings.{oneMore}
-use Rattle.capture.specs.Capture.{openRefusal}
-use Rattle.feeding.specs.Feeding.{isRefused}
-use Rattle.feeding.specs.Whole.{answered, toldNext}
 use Rattle.feeding.proofs.Pieces.{anew, begun-anew}
-use Rattle.capture.specs.declared.Record.{Record}
-use Rattle.turns.specs.Turns.{firstStage, turnOf, windowOf}
+use Rattle.turns.specs.declared.Stage.{Stage}
+use Rattle.turns.specs.Turns.{isSound, endsRefused, writtenStage, endingDue, endingStream, isMissing, missingWords, missingDue, Beginning, begunBy, firstStage, turnOf, windowOf}
+use Rattle.turns.specs.Runs.{Run, joined, AllFull, headed, putIn, putOut, isTaken, run, onOutput, Said, lostText, saidBeside, saidLast, ended, firstRun, replayed, program, besideOf, openedBeside, programBeside}
 use Rattle.turns.proofs.Windows.{put-in-front, cursorAt}
 use Rattle.turns.proofs.Heads.{How, whole as all-there, short, lost, Headed, header-read}
 use Rattle.turns.proofs.Runs.{DueIn, Going, Final, Broken, Over, stays, run-so, run-ends, run-fails}
@@ -828,3 +824,17 @@ module _ (takes : ℕ) (reason : List ℕ) (output : Output) (pieces : List (Lis
               ap (λ (x : Said). x .out) only,
               ap (λ (x : Said). x .beside) only ∙ unsound takes reason output s (r .turn .room) [] [] long off ∙ cond-at (lostText output reason) [] f,
             )
+
+-- ---- as the programs are: with their own buffers, and the turns that they count down
+module _ (takes : ℕ) (reason : List ℕ) (output : Output) (pieces : List (List ℕ)) (fails : Bool) (full : AllFull pieces) (bytes : Bytes (joined pieces))
+    (few : length (joined pieces) < 2 ^ 62) where
+  pub as-the-programs-are : Given takes reason output pieces fails (replicate 24 0) (replicate 262144 0) (replicate 65536 0) (2 ^ 64 - 1)
+  as-the-programs-are =
+      record {
+        full = full;
+        bytes = bytes;
+        header-long = length-replicate {A = ℕ} 24 0;
+        buffer-long = subst (λ (n : ℕ). 2064 ≤ n) (sym (length-replicate {A = ℕ} 262144 0)) (omega arith);
+        room-long = subst (λ (n : ℕ). 2064 ≤ n) (sym (length-replicate {A = ℕ} 65536 0)) (omega arith);
+        turns-enough = omega (arith, few);
+      }

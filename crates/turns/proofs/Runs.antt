@@ -20,6 +20,7 @@ use Rattle.capture.specs.Capture.{nextOf, recordRefusal}
 use Rattle.capture.specs.Whole.{Course, inTurn, courseOf, laterRecord, laterReading}
 use Rattle.capture.proofs.Readings.{at-the-end, tells}
 use Rattle.capture.proofs.Pieces.{bytes-before, in-pieces, course-in-pieces}
+use Rattle.lines.specs.Room.{roomOf}
 use Rattle.outputs.specs.declared.Output.{Output}
 use Rattle.feeding.specs.Feeding.{Replayed, replayedOf, fed}
 use Rattle.feeding.specs.Whole.{Told, toldIn}
@@ -27,7 +28,6 @@ use Rattle.feeding.proofs.Sizes.{AllSized}
 use Rattle.feeding.proofs.Whole.{isLong, isWhole, sofar, Stops, no-record, no-room, no-bytes, FedSome, fed-some}
 use Rattle.feeding.proofs.Pieces.{anew, begun-anew, told-in-pieces, window-due}
 use Rattle.streams.specs.Streams.{Held, shifted}
-use Rattle.lines.specs.Room.{roomOf}
 use Rattle.turns.specs.Turns.{begunAnew, refilledStage, writtenStage, wantsBytes, goesOn, endsRefused, Turn, turnOf, windowOf, fedOf, takenOf, turnTaken}
 use Rattle.turns.specs.Runs.{Run, joined, AllFull, behindFirst, freeOf, read, refilled, putIn, isTaken, wrote, told, oneTurn, run}
 use Rattle.turns.proofs.Windows.{Shifted, shift-so, read-behind, put-in-front, whole-later, long-later, refusal-later, cursorAt, moved, no-course, never-past, none-read, few-left, got-and-left, full-left, sized-split, sized-anew, sized-window}

@@ -22,8 +22,8 @@ use Rattle.capture.proofs.Readings.{tells, whole-record}
 use Rattle.capture.proofs.Pieces.{bytes-before, same-bytes}
 use Rattle.replay.specs.Replay.{recordJudged}
 use Rattle.outputs.specs.declared.Output.{Output}
-use Rattle.feeding.specs.Whole.{Told, answered, askedIn, toldNext, toldIn}
 use Rattle.outputs.proofs.Whole.{Sized}
+use Rattle.feeding.specs.Whole.{Told, answered, askedIn, toldNext, toldIn}
 use Rattle.feeding.proofs.Pieces.{due}
 use Rattle.feeding.proofs.Sizes.{AllSized}
 use Rattle.feeding.proofs.Whole.{isLong, isWhole}
