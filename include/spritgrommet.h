@@ -32,7 +32,8 @@
  *     other, and do not show it to the gateway.
  *   - Verdict 0 says that a packet is not between cell and plant, or that a frame is not plain IPv4. It is no leave to forward: behind it
  *     go 802.1Q-tagged frames (also with VLAN 0, which many systems take as untagged), IPv6, ARP and every other EtherType, from blocked
- *     machines too. Decide on frames that are not plain IPv4 by yourself, before you forward any; where you have no rule for one, drop it.
+ *     machines too; and so do IPv4 packets to addresses of neither list, as broadcast and multicast ones, which may reach every machine of
+ *     the plant. Decide on all of these by yourself, before you forward any; where you have no rule for one, drop it.
  *   - What is refused was not judged. Hold it back.
  */
 #ifndef SPRITGROMMET_H
@@ -63,8 +64,8 @@ struct spritgrommet_list {
 };
 
 /* A gateway: all that a call works on. Where it starts cold, what the tables and the clock held before does not matter. Records are best
- * lent at a multiple of 64 bytes: a minute boundary takes 128 of them at a time, from the first on, or all of a smaller table, and does not
- * store to those where all of them are 0 (which is tested, not proved). */
+ * lent at a multiple of 64 bytes: a minute boundary takes 64 of them at a time, and stores only to those that differ afterwards, which are
+ * the ones that are not 0 (that it stores to no other is tested, not proved). */
 struct spritgrommet {
     struct spritgrommet_settings settings;
     struct spritgrommet_list cell;  /* outside: may be infected */

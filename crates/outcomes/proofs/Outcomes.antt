@@ -108,6 +108,7 @@ use Rattle.turns.proofs.beginning_goes_to.Reads as turns-beginning-goes-to
 use Rattle.turns.proofs.ending_goes_to.Reads as turns-ending-goes-to
 use Rattle.turns.proofs.first.Reads as turns-first
 use Rattle.turns.proofs.goes_on.Reads as turns-goes-on
+use Rattle.turns.proofs.has_failed.Reads as turns-has-failed
 use Rattle.turns.proofs.is_early.Reads as turns-is-early
 use Rattle.turns.proofs.is_sound.Reads as turns-is-sound
 use Rattle.turns.proofs.lacks_header.Reads as turns-lacks-header
@@ -397,6 +398,9 @@ turns-first-one κs a x y s t p q = same p q
 
 pub turns-is-early-one : (κs : _) (a : _) → One (turns-is-early.Learnt κs a) (λ x s. x)
 turns-is-early-one κs a x y s t p q = same p q
+
+pub turns-has-failed-one : (κs : _) (a : _) → One (turns-has-failed.Learnt κs a) (λ x s. x)
+turns-has-failed-one κs a x y s t p q = same p q
 
 pub turns-refilled-one : (κs : _) (a : _) → One (turns-refilled.Learnt κs a) (λ x s. x)
 turns-refilled-one κs a x y s t p q = same p q

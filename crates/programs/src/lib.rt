@@ -29,7 +29,7 @@ fn pause() {
 
 // Whether a read failed that would only have had to wait. The system tells why of the last call that failed.
 fn has_to_wait(filled: Filled) -> bool {
-    if filled.has_failed {
+    if turns::has_failed(filled.got) {
         return turns::is_early(os::errno());
     }
     false
@@ -52,7 +52,7 @@ fn fill(input: &mut [u8], held: usize) -> Filled {
 fn refill(input: &mut [u8], stage: Stage) -> Stage {
     if stage.wants_bytes {
         let filled = fill(input, stage.held);
-        return turns::refilled(stage, filled.held, filled.has_failed);
+        return turns::refilled(stage, filled.held, filled.got);
     }
     stage
 }

@@ -14,6 +14,7 @@ use Rattle.lines.specs.Lines.{newline}
 use Rattle.lines.specs.Text.{space}
 use Rattle.lines.specs.Room.{Room, roomOf, put}
 use Rattle.outputs.specs.declared.Output.{Output}
+use Rattle.outputs.specs.declared.Output.the-variants.{Lines, Forwarded, Reasons}
 use Rattle.endings.specs.Endings.{headerRefused}
 use Rattle.feeding.specs.Whole.{toldOfCapture, endingOf, programTables}
 use Rattle.turns.specs.declared.Stage.{Stage}
@@ -108,10 +109,14 @@ module _ (takes : ℕ) where
   run output big (suc turns) r = cond (goesOn (r .turn .stage)) (run output big turns (oneTurn output big r)) r
 
 -- ---- how it ends
--- what goes to a stream is on standard output, where that is the stream, and else beside it
+-- where what is written to a stream stands: 1 is standard output, 2 standard error, and what goes to any other is seen nowhere
 abbrev pub onOutput : ℤ → Bool
 onOutput (pos n) = eqb n 1
 onOutput (negsuc n) = false
+
+abbrev pub onError : ℤ → Bool
+onError (pos n) = eqb n 2
+onError (negsuc n) = false
 
 -- all of standard output, and of standard error, which takes all that is said
 pub record Said : Type 0 where
@@ -138,7 +143,7 @@ module _ (takes : ℕ) (reason : List ℕ) (output : Output) where
   saidLast stream s room out lines =
       cond (onOutput stream)
       (saidBeside (writtenStage s (isTaken takes out lines)) room (putOut takes out lines) [])
-      (saidBeside (writtenStage s true) room out lines)
+      (saidBeside (writtenStage s true) room out (cond (onError stream) lines []))
 
   -- how the capture ended
   abbrev pub saidEnding : Run → Room → Said
@@ -151,10 +156,16 @@ module _ (takes : ℕ) (reason : List ℕ) (output : Output) where
   abbrev pub firstRun : List ℕ → Beginning → Input → Run
   firstRun buffer b input =
       record {
-        turn = turnOf (firstStage (isTaken takes [] (putIn (roomOf (b .begun .put) (b .room))))) buffer (b .room) programTables;
-        out = putOut takes [] (putIn (roomOf (b .begun .put) (b .room)));
+        turn = turnOf (firstStage (cond onIt (isTaken takes [] opening) true)) buffer (b .room) programTables;
+        out = cond onIt (putOut takes [] opening) [];
         input = input;
       }
+    where
+      onIt : Bool
+      onIt = onOutput (beginningStream output true)
+
+      opening : List ℕ
+      opening = putIn (roomOf (b .begun .put) (b .room))
 
   abbrev pub replayed : ℕ → List ℕ → Run → Beginning → Said
   replayed turns buffer r b =
@@ -175,10 +186,16 @@ module _ (takes : ℕ) (reason : List ℕ) (output : Output) where
       fromHeader turns buffer (headed 24 (record { turn = turnOf (firstStage true) header room programTables; out = []; input = input }))
 
 -- ---- and what it should be
--- all of standard error, for a capture that is read and put out whole: the ending, where standard output is a capture itself, and for a
--- record that alone is wanted and is not there a sentence
+-- of the last lines, those that stand on standard error: all of them where standard output is a capture itself
+abbrev pub linesBeside : Output → List ℕ → List ℕ
+linesBeside Lines lines = []
+linesBeside Forwarded lines = lines
+linesBeside (Reasons wanted) lines = []
+
+-- all of standard error, for a capture that is read and put out whole: such lines, and for a record that alone is wanted and is not there a
+-- sentence
 abbrev pub besideOf : Output → List ℕ → ℕ → List ℕ
-besideOf output lines records = cond (onOutput (endingStream output)) [] lines ++ cond (isMissing output records) missingWords []
+besideOf output lines records = linesBeside output lines ++ cond (isMissing output records) missingWords []
 
 abbrev pub openedBeside : Output → List ℕ → Opened → List ℕ
 openedBeside output l (Refused number) = besideOf output (headerRefused number) 0

@@ -4,6 +4,7 @@ use mathlib.Core.Bool.{Bool, true, false, cond, not, _&&_, _||_}
 use mathlib.Core.List.{List, []}
 use Prim.Native.Nat.{ℕ, min}
 use lib.Dec.{eqb, leb, ltb}
+use lib.Signed.{ltZ}
 use lib.IntN.{ℤ, pos, negsuc}
 use lib.ListN.{length, take}
 use Rattle.capture.specs.declared.Opened.{Opened}
@@ -39,6 +40,10 @@ begunAnew p = record { at = 0; put = 0; records = p .records; refusals = p .refu
 abbrev pub isEarly : ℤ → Bool
 isEarly (pos error) = eqb error 11 || eqb error 4
 isEarly (negsuc n) = false
+
+-- a read answers how many bytes it brought, or fewer than none where it failed
+abbrev pub hasFailed : ℤ → Bool
+hasFailed got = ltZ got (pos 0)
 
 -- input has ended where a read brought nothing; what is said of a read that failed is not that input has ended
 abbrev pub refilledStage : Stage → ℕ → Bool → Stage

@@ -4,7 +4,7 @@ ghost use mathlib.Core.Path.{_≡_};
 ghost use Rattle.capture.specs.Capture.{openedOf};
 ghost use Rattle.gateway.specs.Calls.{stateOf};
 ghost use Rattle.lines.specs.Room.{roomOf, put};
-ghost use Rattle.turns.specs.Turns.{firstStage, begunAnew, isEarly, refilledStage, takenStage, writtenStage, isSound, goesOn, lacksHeader};
+ghost use Rattle.turns.specs.Turns.{firstStage, begunAnew, isEarly, hasFailed, refilledStage, takenStage, writtenStage, isSound, goesOn, lacksHeader};
 ghost use Rattle.turns.specs.Turns.{endsRefused, endingDue, endingStream, beginningStream, wantedOf, isMissing, missingDue, lostWords};
 ghost use Rattle.turns.specs.Turns.{beginningOf, begunBy, turnOf, turnTaken};
 use capture::Opened;
@@ -72,10 +72,18 @@ pub fn is_early(error: i32) -> bool
     (error == 11) | (error == 4)
 }
 
-// After a read, with so many bytes held then, and whether it failed.
-pub fn refilled(stage: Stage, held: usize, has_failed: bool) -> Stage
-    ensures { λ r. ⌜ r ≡ refilledStage stage held «has_failed» ⌝ }
+// Whether a read failed, by what it answered: how many bytes it brought, and fewer than none where it failed.
+pub fn has_failed(got: isize) -> bool
+    ensures { λ r. ⌜ r ≡ hasFailed got ⌝ }
 {
+    got < 0
+}
+
+// After a read, with so many bytes held then, by what it answered.
+pub fn refilled(stage: Stage, held: usize, got: isize) -> Stage
+    ensures { λ r. ⌜ r ≡ refilledStage stage held (hasFailed got) ⌝ }
+{
+    let has_failed = has_failed(got);
     let mut next = stage;
     next.held = held;
     next.has_ended = !has_failed & (held <= stage.held);
