@@ -300,6 +300,29 @@ lost-not-sound b s e = rw e (go (s .«is_written» && b))
     go true = refl
     go false = refl
 
+-- a run whose last stage is not sound: nothing more is put out, and of what is said beside only that a read failed
+module _ (takes : ℕ) (reason : List ℕ) (output : Output) (r : Run) (room : 2064 ≤ length (r .turn .room)) (within : length (r .out) ≤ takes)
+    (off : isSound (r .turn .stage) ≡ false) (stays-off : (b : Bool) → isSound (writtenStage (r .turn .stage) b) ≡ false) where
+  abbrev room-after-it : List ℕ
+  room-after-it = put (endingDue (r .turn .stage)) (roomOf 0 (r .turn .room)) .bytes
+
+  abbrev lines-of-it : List ℕ
+  lines-of-it = putIn (put (endingDue (r .turn .stage)) (roomOf 0 (r .turn .room)))
+
+  none-due : endingDue (r .turn .stage) ≡ []
+  none-due = nothing-said (r .turn .stage) off
+
+  no-lines : lines-of-it ≡ []
+  no-lines = put-in (endingDue (r .turn .stage)) (r .turn .room) (omega (arith, ap length none-due)) ∙ none-due
+
+  unsound-out : ended takes reason output r .out ≡ r .out
+  unsound-out = no-more-out takes reason output (r .turn .stage) room-after-it (r .out) lines-of-it within no-lines
+
+  unsound-beside : ended takes reason output r .beside ≡ cond (r .turn .stage .«is_lost») (lostText output reason) []
+  unsound-beside =
+      no-more-beside takes reason output (r .turn .stage) room-after-it (r .out) lines-of-it
+      (omega (arith, room, same-long (endingDue (r .turn .stage)) (r .turn .room) (omega (arith, ap length none-due)))) stays-off no-lines
+
 -- a capture that opens, of which the header was read: input brings the rest
 module _ (takes : ℕ) (reason : List ℕ) (output : Output) (header : List ℕ) (pieces : List (List ℕ)) (fails : Bool) (buffer room : List ℕ)
     (cursor : Cursor) (turns : ℕ) where
@@ -478,23 +501,12 @@ module _ (takes : ℕ) (reason : List ℕ) (output : Output) (header : List ℕ)
         not-sound : isSound s ≡ false
         not-sound = rw (f .written, failed)
 
-        no-lines : putIn (put (endingDue s) (roomOf 0 (last .turn .room))) ≡ []
-        no-lines = put-in (endingDue s) (last .turn .room) (omega (arith, ap length (nothing-said s not-sound))) ∙ nothing-said s not-sound
-
-        same-room : 2064 ≤ length (put (endingDue s) (roomOf 0 (last .turn .room)) .bytes)
-        same-room =
-            omega (arith, f .room, same-long (endingDue s) (last .turn .room) (omega (arith, ap length (nothing-said s not-sound))))
-
         lost-out : ended takes reason output last .out ≡ target .bytes
-        lost-out =
-            no-more-out takes reason output s (put (endingDue s) (roomOf 0 (last .turn .room)) .bytes) (last .out)
-            (putIn (put (endingDue s) (roomOf 0 (last .turn .room)))) (f .within) no-lines
-            ∙ all-out
+        lost-out = unsound-out takes reason output last (f .room) (f .within) not-sound (λ b. lost-not-sound b s failed) ∙ all-out
 
         lost-beside : ended takes reason output last .beside ≡ lostText output reason
         lost-beside =
-            no-more-beside takes reason output s (put (endingDue s) (roomOf 0 (last .turn .room)) .bytes) (last .out)
-            (putIn (put (endingDue s) (roomOf 0 (last .turn .room)))) same-room (λ b. lost-not-sound b s failed) no-lines
+            unsound-beside takes reason output last (f .room) (f .within) not-sound (λ b. lost-not-sound b s failed)
             ∙ cond-at (lostText output reason) [] failed
 
     -- ---- or a write failed
@@ -502,52 +514,43 @@ module _ (takes : ℕ) (reason : List ℕ) (output : Output) (header : List ℕ)
       abbrev s′ : Stage
       s′ = last .turn .stage
 
-      still-unsound : (t : Bool) → isSound (writtenStage s′ t) ≡ false
-      still-unsound t = rw (b .unwritten)
+      not-sound-now : isSound s′ ≡ false
+      not-sound-now = rw (b .unwritten)
 
-      no-ending : endingDue s′ ≡ []
-      no-ending = nothing-said s′ (rw (b .unwritten))
-
-      nothing-put : putIn (put (endingDue s′) (roomOf 0 (last .turn .room))) ≡ []
-      nothing-put = put-in (endingDue s′) (last .turn .room) (omega (arith, ap length no-ending)) ∙ no-ending
-
-      room-left : 2064 ≤ length (put (endingDue s′) (roomOf 0 (last .turn .room)) .bytes)
-      room-left = omega (arith, b .room, same-long (endingDue s′) (last .turn .room) (omega (arith, ap length no-ending)))
+      not-sound-then : (t : Bool) → isSound (writtenStage s′ t) ≡ false
+      not-sound-then t = rw (b .unwritten)
 
       few-out : length (last .out) ≤ takes
       few-out = omega (arith, ap length (b .part-told), length-take takes (target .bytes))
 
       broken-out : ended takes reason output last .out ≡ take takes (target .bytes)
-      broken-out =
-          no-more-out takes reason output s′ (put (endingDue s′) (roomOf 0 (last .turn .room)) .bytes) (last .out)
-          (putIn (put (endingDue s′) (roomOf 0 (last .turn .room)))) few-out nothing-put
-          ∙ b .part-told
+      broken-out = unsound-out takes reason output last (b .room) few-out not-sound-now not-sound-then ∙ b .part-told
 
       broken-beside : ended takes reason output last .beside ≡ []
       broken-beside =
-          no-more-beside takes reason output s′ (put (endingDue s′) (roomOf 0 (last .turn .room)) .bytes) (last .out)
-          (putIn (put (endingDue s′) (roomOf 0 (last .turn .room)))) room-left still-unsound nothing-put
+          unsound-beside takes reason output last (b .room) few-out not-sound-now not-sound-then
           ∙ cond-at (lostText output reason) [] (b .found)
 
       -- what is told is the first part of the output, the ending included
+      abbrev end : List ℕ
+      end = endingOf output all cursor programTables
+
+      by-stream : cond (onOutput (endingStream output)) (target .bytes ++ end) (target .bytes) ≡ outputOf output all cursor programTables
+      by-stream = out-by output all cursor (target .bytes) end refl refl
+
       first-part : take takes (target .bytes) ≡ take takes (outputOf output all cursor programTables)
-      first-part = by output refl (b .too-much)
+      first-part = go (onOutput (endingStream output)) ∙ ap (take takes) by-stream
         where
-          by : (o : Output) → o ≡ output → takes < length (toldOfCapture o all cursor programTables .bytes)
-              → take takes (toldOfCapture o all cursor programTables .bytes) ≡ take takes (outputOf o all cursor programTables)
-          by Lines e h = sym (take-append-le takes (toldOfCapture Lines all cursor programTables .bytes) (endingOf Lines all cursor programTables) (omega (arith, h)))
-          by Forwarded e h = refl
-          by (Reasons wanted) e h =
-              sym (take-append-le takes (toldOfCapture (Reasons wanted) all cursor programTables .bytes) (endingOf (Reasons wanted) all cursor programTables) (omega (arith, h)))
+          go : (t : Bool) → take takes (target .bytes) ≡ take takes (cond t (target .bytes ++ end) (target .bytes))
+          go true = sym (take-append-le takes (target .bytes) end (omega (arith, b .too-much)))
+          go false = refl
 
       too-long : takes < length (outputOf output all cursor programTables)
-      too-long = by output (b .too-much)
+      too-long = subst (λ (l : List ℕ). takes < length l) by-stream (go (onOutput (endingStream output)))
         where
-          by : (o : Output) → takes < length (toldOfCapture o all cursor programTables .bytes) → takes < length (outputOf o all cursor programTables)
-          by Lines h = omega (arith, h, length-append (toldOfCapture Lines all cursor programTables .bytes) (endingOf Lines all cursor programTables))
-          by Forwarded h = h
-          by (Reasons wanted) h =
-              omega (arith, h, length-append (toldOfCapture (Reasons wanted) all cursor programTables .bytes) (endingOf (Reasons wanted) all cursor programTables))
+          go : (t : Bool) → takes < length (cond t (target .bytes ++ end) (target .bytes))
+          go true = omega (arith, b .too-much, length-append (target .bytes) end)
+          go false = b .too-much
 
     -- ---- so it is, whichever
     opened-out : fails ≡ false → ended takes reason output last .out ≡ take takes (outputOf output all cursor programTables)

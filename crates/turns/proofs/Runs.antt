@@ -574,14 +574,10 @@ module _ (takes : ℕ) (output : Output) (big : Bool) (target : Told) (ended : R
       got-more : (g : Going at-piece) → t .stage .«wants_bytes» ≡ true → Ready (read t out (piece ∷ pieces) fails)
       got-more g wants =
           let d = g .ready in
-          let w = g .waits wants in
           let got : List ℕ = take (freeOf t) piece in
           let held : ℕ = t .stage .held in
-          let long = length-take (freeOf t) piece in
-          let few = few-left big (d .window) (nextOf (d .window) front) refl (w .no-whole) (w .no-long) in
-          let count : held ≡ length (d .window) = sym (sym (ap length (d .window-is)) ∙ length-take-le held (t .input) (d .held-in)) in
-          let fits : held + length got ≤ length (t .input) = omega (arith, long, d .held-in) in
-          let some : held < held + length got = omega (arith, long, few, count, d .buffer, d .full .0) in
+          let fits : held + length got ≤ length (t .input) = omega (arith, length-take (freeOf t) piece, d .held-in) in
+          let some : held < held + length got = omega (arith, got-any g wants) in
           let same = stored-length got held (t .input) in
           record {
             past = d .past;
@@ -608,16 +604,14 @@ module _ (takes : ℕ) (output : Output) (big : Bool) (target : Told) (ended : R
     abbrev gone-on : Run → Run
     gone-on y = cond (goesOn (y .turn .stage)) (told takes output big y) y
 
-    turn-on : (k : ℕ) (r y : Run) → refilled r ≡ y → goesOn (y .turn .stage) ≡ true → Then k (told takes output big y) → Then k (oneTurn takes output big r)
-    turn-on k r y e f p = subst (Then k) (sym (ap gone-on e ∙ cond-at (told takes output big y) y f)) p
-
-    turn-off : (k : ℕ) (r y : Run) → refilled r ≡ y → goesOn (y .turn .stage) ≡ false → Then k y → Then k (oneTurn takes output big r)
-    turn-off k r y e f p = subst (Then k) (sym (ap gone-on e ∙ cond-at (told takes output big y) y f)) p
+    turn-by : (on : Bool) (k : ℕ) (r y : Run) → refilled r ≡ y → goesOn (y .turn .stage) ≡ on → Then k (cond on (told takes output big y) y)
+        → Then k (oneTurn takes output big r)
+    turn-by on k r y e f p = subst (Then k) (sym (ap gone-on e ∙ cond-at (told takes output big y) y f)) p
 
     no-read : (r : Run) → Going r → r .turn .stage .«wants_bytes» ≡ false → Then (left r) (oneTurn takes output big r)
     no-read r g e =
         let flag : unasked (r .turn .stage .«wants_bytes») ≡ 1 = ap unasked e in
-        turn-on (left r) r r (cond-at (read (r .turn) (r .out) (r .input .pieces) (r .input .fails)) r e) (goes r (g .ready))
+        turn-by true (left r) r r (cond-at (read (r .turn) (r .out) (r .input .pieces) (r .input .fails)) r e) (goes r (g .ready))
         (then-more (before r (g .ready) + 1) (left r) (told takes output big r) (omega (arith, flag)) (told-then r (g .ready)))
 
     a-read : (t : Turn) (out : List ℕ) (pieces : List (List ℕ)) (fails : Bool) →
@@ -626,12 +620,12 @@ module _ (takes : ℕ) (output : Output) (big : Bool) (target : Told) (ended : R
     a-read t out [] fails g e =
         let r : Run = record { turn = t; out = out; input = record { pieces = []; fails = fails } } in
         let f = no-more t out fails g e in
-        turn-off (left r) r (read t out [] fails) (cond-at (read t out [] fails) r e) (f .stops) (inr (inl f))
+        turn-by false (left r) r (read t out [] fails) (cond-at (read t out [] fails) r e) (f .stops) (inr (inl f))
     a-read t out (piece ∷ pieces) fails g e =
         let r : Run = record { turn = t; out = out; input = record { pieces = piece ∷ pieces; fails = fails } } in
         let y : Run = read t out (piece ∷ pieces) fails in
         let d = got-more t out piece pieces fails g e in
-        turn-on (left r) r y (cond-at y r e) (goes y d)
+        turn-by true (left r) r y (cond-at y r e) (goes y d)
         (then-more (before y d + 1) (left r) (told takes output big y)
         (omega (arith, got-any t out piece pieces fails g e, all-got t out piece pieces fails)) (told-then y d))
 
