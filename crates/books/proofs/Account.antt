@@ -2,14 +2,15 @@
 -- inequalities from which demand 3 follows. A count z is `up z` less `dn z`, of which one is 0, so that all of this is linear.
 -- Assumes nothing.
 use mathlib.Core.Bool.{Bool, true, false, cond}
+use mathlib.Core.Logic.{_⊎_, inl, inr}
 use mathlib.Core.Path.{_≡_, refl, ap}
-use Prim.Native.Nat.{ℕ, suc, _+_, _*_, _≤_, _<_, min}
+use Prim.Native.Nat.{ℕ, suc, _+_, _-_, _*_, _≤_, _<_, min}
 use native.Mathlib.Nat.{mul-add}
 use native.Mathlib.Omega.{arith}
 use lib.IntN.{ℤ, pos, _+ℤ_, _-ℤ_}
 use lib.Signed.{leZ}
 use Rattle.laws.proofs.Signed.{up, dn, leZ-true, leZ-false, leZ-yes, sum-is, difference-is, one-part}
-use Rattle.counts.specs.Counts.{larger, loweredBy, raisedBy, decayedBy}
+use Rattle.counts.specs.Counts.{isBlocked, larger, loweredBy, raisedBy, decayedBy}
 use Rattle.counts.proofs.Counts.{fell, raised-within}
 
 -- ---- what verdicts do to a count
@@ -53,6 +54,17 @@ lowered k floor c h = go (leZ floor (c -ℤ pos k)) refl
         let mine = one-part c in
         record { sum = omega (arith, less); up-less = omega (arith, less); low = omega (arith, less) }
 
+-- a count that a threshold blocks reaches it, and one that it does not is under it
+pub reaches : (B : ℕ) (c : ℤ) → isBlocked B c ≡ true → B ≤ up c
+reaches B c e = omega (arith, leZ-true (pos B) c e, one-part c)
+
+pub under : (B : ℕ) (c : ℤ) → 1 ≤ B → isBlocked B c ≡ false → up c < B
+under B c h e = omega (arith, leZ-false (pos B) c e, one-part c)
+
+-- a count c, and d after a call that names its address n times as replaced: it stays, or its address is named and it is 0
+abbrev pub StaysOrNamed : ℕ → ℤ → ℤ → Type 0
+StaysOrNamed n c d = (d ≡ c) ⊎ ((0 < n) × (d ≡ pos 0))
+
 -- ---- the account
 -- B: blocked from this count on. U: no count that a forwarded contact makes is above it. c0, c: the address's count at the start and now.
 -- F, D, H, R: the weights of its fresh contacts forwarded, what decay and credit may have taken, and how often its entry was replaced.
@@ -92,12 +104,12 @@ module _ {B U : ℕ} {c0 c : ℤ} {F D H R : ℕ} (i : Holds B U c0 c F D H R) w
       record { bound = omega (arith, i .bound); block = omega (arith, i .block); full = omega (arith, i .full) }
 
   -- its entry is replaced by another address's
-  pub on-replaced : Holds B U c0 (pos 0) F D H (suc R)
+  on-replaced : Holds B U c0 (pos 0) F D H (suc R)
   on-replaced = record { bound = omega (arith, i .bound); block = omega (arith, i .block); full = omega arith }
 
   -- it is named as replaced, whatever became of it: nothing is lost
-  pub on-named : (k : ℕ) → Holds B U c0 c F D H (R + k)
-  on-named k = record { bound = omega (arith, i .bound, mul-add U R k); block = i .block; full = i .full }
+  still-holds : (n : ℕ) → Holds B U c0 c F D H (R + n)
+  still-holds n = record { bound = omega (arith, i .bound, mul-add U R n); block = i .block; full = i .full }
 
   -- n points of decay
   pub on-decay : (n : ℕ) → Holds B U c0 (decayedBy n c) F (D + n) H R
@@ -111,3 +123,8 @@ module _ {B U : ℕ} {c0 c : ℤ} {F D H R : ℕ} (i : Holds B U c0 c F D H R) w
 
   pub holds-blocked : B ≤ up c → B ≤ F + up c0
   holds-blocked h = omega (arith, i .block)
+
+-- it is named n times as replaced
+pub on-named : {B U : ℕ} {c0 c d : ℤ} {F D H R : ℕ} → Holds B U c0 c F D H R → (n : ℕ) → StaysOrNamed n c d → Holds B U c0 d F D H (R + n)
+on-named i n (inl e) = recast (still-holds i n) e refl refl refl refl
+on-named i n (inr (named, e)) = recast (still-holds (on-replaced i) (n - 1)) e refl refl refl (omega (arith, named))

@@ -5,4 +5,6 @@ pub mod Slots
 pub mod Lawful
 pub mod Writes
 pub mod Own
+pub mod Invariant
+pub mod Packets
 pub mod Runs

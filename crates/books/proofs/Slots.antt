@@ -178,13 +178,18 @@ module _ (fromPlant blocked : Bool) (kind : Kind) (byte : ℕ) where
   dropped-record f = rw (by-number verdict ∙ f)
 
 -- ---- the slot's record and its history
--- by Dconn, the start's clock and the slot's record there, b0: what was live when the history began
+-- by Dconn, the start's clock and the slot's record there, b0: whether the slot is live at a moment, if nothing was forwarded on it since.
+-- A slot still marked counts as last forwarded on as many minute boundaries ago as its age says.
 abbrev pub heldBy : ℕ → ℕ → ℕ → ℕ → Bool
 heldBy dconn start b0 now = leb (ageOf b0 + multiplesPassed 60 start now) dconn && not (isCold b0)
 
-module _ (dconn start b0 : ℕ) where
+-- what is held of the slot where the history begins
+module _ (dconn start b0 : ℕ) (held : ℕ → Bool) where
+  abbrev HeldSo : Type 0
+  HeldSo = (now : ℕ) → held now ≡ heldBy dconn start b0 now
+
   abbrev live : ℕ → List Forwarded → Bool
-  live now forwarded = isLive (heldBy dconn start b0) dconn now forwarded
+  live now forwarded = isLive held dconn now forwarded
 
   -- the last time that a packet was forwarded on the slot, or the start, and the minute boundaries since
   abbrev latest : List Forwarded → ℕ
@@ -200,21 +205,23 @@ module _ (dconn start b0 : ℕ) where
   opened [] = not (isCold b0)
   opened (last ∷ earlier) = not (closesFromPlant (last .packet)) || live (last .time) earlier
 
-  live-by : (now : ℕ) (forwarded : List Forwarded) → live now forwarded ≡ (leb (since now forwarded) dconn && opened forwarded)
-  live-by now [] = refl
-  live-by now (last ∷ earlier) = refl
+  live-by : HeldSo → (now : ℕ) (forwarded : List Forwarded) → live now forwarded ≡ (leb (since now forwarded) dconn && opened forwarded)
+  live-by so now [] = so now
+  live-by so now (last ∷ earlier) = refl
 
   -- the slot's record b at a time
   pub record Kept (b time : ℕ) (forwarded : List Forwarded) : Type 0 where
+    pub held-so : HeldSo
     pub mark : not (isCold b) ≡ live time forwarded
     pub old : isCold b ≡ false → ageOf b ≡ since time forwarded
     pub past : latest forwarded ≤ time
 
   -- the start
-  pub kept-start : (isCold b0 ≡ false → ageOf b0 ≤ dconn) → Kept b0 start []
-  kept-start young =
+  pub kept-start : HeldSo → (isCold b0 ≡ false → ageOf b0 ≤ dconn) → Kept b0 start []
+  kept-start so young =
       record {
-        mark = go (isCold b0) refl;
+        held-so = so;
+        mark = go (isCold b0) refl ∙ sym (so start);
         old = λ e. omega (arith, none);
         past = omega arith;
       }
@@ -245,17 +252,17 @@ module _ (dconn start b0 : ℕ) where
 
         -- a slot that was not live is not live later, and one that was is so while it is not too long ago
         never : live time forwarded ≡ false → live later forwarded ≡ false
-        never e = live-by later forwarded ∙ is-false _ (λ t. true-is-not-false
-            (live-by time forwarded
+        never e = live-by (i .held-so) later forwarded ∙ is-false _ (λ t. true-is-not-false
+            (live-by (i .held-so) time forwarded
             ∙ and-yes (le-leb (since time forwarded) dconn (omega (arith, more, leb-true (since later forwarded) dconn (and-left (leb (since later forwarded) dconn) (opened forwarded) t))))
             (and-right (leb (since later forwarded) dconn) (opened forwarded) t))
             e)
 
         still : (near : Bool) → leb (since later forwarded) dconn ≡ near → live time forwarded ≡ true → live later forwarded ≡ near
         still near e l =
-            live-by later forwarded
+            live-by (i .held-so) later forwarded
             ∙ ap (λ (t : Bool). t && opened forwarded) e
-            ∙ open-so near (and-right (leb (since time forwarded) dconn) (opened forwarded) (sym (live-by time forwarded) ∙ l))
+            ∙ open-so near (and-right (leb (since time forwarded) dconn) (opened forwarded) (sym (live-by (i .held-so) time forwarded) ∙ l))
           where
             open-so : (near : Bool) → opened forwarded ≡ true → (near && opened forwarded) ≡ near
             open-so true o = o
@@ -271,7 +278,7 @@ module _ (dconn start b0 : ℕ) where
         cold : (b′ : ℕ) → b′ ≡ 0 → live later forwarded ≡ false → Kept b′ later forwarded
         cold b′ e l =
             let c : isCold b′ ≡ true = ap isCold e ∙ low-is-cold 0 (omega arith) in
-            record { mark = ap not c ∙ sym l; old = λ w. true-is-not-false c w; past = past }
+            record { held-so = i .held-so; mark = ap not c ∙ sym l; old = λ w. true-is-not-false c w; past = past }
 
         aged : (m : ℕ) → 0 < m → multiplesPassed 60 time later ≡ m → isCold b ≡ false → Which dconn (ageOf b + m) → Kept (agedBy dconn m b) later forwarded
         aged m passing e c (below l) =
@@ -283,6 +290,7 @@ module _ (dconn start b0 : ℕ) where
             let older = older-age b m (omega arith) in
             rw is
             (record {
+              held-so = i .held-so;
               mark = ap (λ (x : Marks). not (isUnmarked x)) marks ∙ ap not c ∙ sym (still true (le-leb (since later forwarded) dconn (omega (arith, more, e, i .old c))) (lived c));
               old = λ w. omega (arith, older, more, e, i .old c);
               past = past;
@@ -293,7 +301,8 @@ module _ (dconn start b0 : ℕ) where
             let same : since later forwarded ≡ since time forwarded = omega (arith, more, e) in
             rw (aged-none dconn b)
             (record {
-              mark = i .mark ∙ live-by time forwarded ∙ ap (λ (n : ℕ). leb n dconn && opened forwarded) (sym same) ∙ sym (live-by later forwarded);
+              held-so = i .held-so;
+              mark = i .mark ∙ live-by (i .held-so) time forwarded ∙ ap (λ (n : ℕ). leb n dconn && opened forwarded) (sym same) ∙ sym (live-by (i .held-so) later forwarded);
               old = λ w. i .old w ∙ sym same;
               past = past;
             })
@@ -306,6 +315,7 @@ module _ (dconn start b0 : ℕ) where
   kept-forwarded {b} {b′} {time} {forwarded} packet i r =
       let none = passed-none 60 time time (omega arith) in
       record {
+        held-so = i .held-so;
         mark =
             r .mark ∙ ap (λ (t : Bool). not (closesFromPlant packet) || t) (i .mark)
             ∙ sym (ap (λ (t : Bool). t && (not (closesFromPlant packet) || live time forwarded)) (le-leb (multiplesPassed 60 time time) dconn (omega (arith, none))));

@@ -12,11 +12,10 @@ use native.Mathlib.Omega.{arith}
 use lib.Dec.{leb}
 use borrow.Author.Tests.{leb-true, le-leb, not-true}
 use Rattle.laws.proofs.Tests.{true-is-not-false, is-false, and-left, and-right, and-yes}
-use Rattle.settings.specs.declared.Settings.{Settings}
 use Rattle.tables.specs.Clock.{multiplesPassed}
-use Rattle.rulings.specs.Rules.{Rules}
-use Rattle.history.specs.Runs.{Site, Event}
-use Rattle.history.specs.Fresh.{Ours, forwards, Forwarded, closesFromPlant, NoLongGap, Live, isLive, nothingHeld, slotFor, forwardedOn, Fresh, liveFor, isFresh}
+use Rattle.gateway.specs.Calls.{State}
+use Rattle.history.specs.Runs.{Site, Start, coldStart, Event}
+use Rattle.history.specs.Fresh.{Ours, forwards, Forwarded, closesFromPlant, NoLongGap, Live, isLive, slotFor, forwardedOn, Fresh, liveFor, isFresh}
 
 module _ (dconn : ℕ) where
   abbrev test : ℕ → List Forwarded → Bool
@@ -68,17 +67,20 @@ module _ (dconn : ℕ) where
   live-is now forwarded =
       (in-words now forwarded, λ l. subst (λ (xs : List Forwarded). test now xs ≡ true) (sym (l .some-earlier)) (reached now (l .newer) (l .it) (l .older) (l .other-than) (l .from-it-to-now)))
 
-module _ (rules : Settings → Rules) (site : Site) (time : ℕ) (packet : Ours) (verdict : Option ℕ) (before : List Event) where
+module _ (site : Site) (state : State) (time : ℕ) (packet : Ours) (verdict : Option ℕ) (before : List Event) where
+  abbrev start : Start
+  start = coldStart state
+
   abbrev live : Bool
-  live = liveFor rules site nothingHeld packet time before
+  live = liveFor site start packet time before
 
-  slot-is : (live ≡ true) ↔ Live (site .settings .dconn) time (forwardedOn rules site (slotFor rules site packet) before)
-  slot-is = live-is (site .settings .dconn) time (forwardedOn rules site (slotFor rules site packet) before)
+  slot-is : (live ≡ true) ↔ Live (site .settings .dconn) time (forwardedOn site (slotFor site packet) before)
+  slot-is = live-is (site .settings .dconn) time (forwardedOn site (slotFor site packet) before)
 
-  pub fresh-is : (isFresh rules site nothingHeld time packet verdict before ≡ true) ↔ Fresh rules site time packet verdict before
+  pub fresh-is : (isFresh site start time packet verdict before ≡ true) ↔ Fresh site time packet verdict before
   fresh-is = (words, test-passes)
     where
-      words : isFresh rules site nothingHeld time packet verdict before ≡ true → Fresh rules site time packet verdict before
+      words : isFresh site start time packet verdict before ≡ true → Fresh site time packet verdict before
       words e =
           let rest = and-right (forwards verdict) (not (packet .fromPlant) && not live) e in
           record {
@@ -87,6 +89,6 @@ module _ (rules : Settings → Rules) (site : Site) (time : ℕ) (packet : Ours)
             slot-not-live = λ l. true-is-not-false (slot-is .1 l) (not-true live (and-right (not (packet .fromPlant)) (not live) rest));
           }
 
-      test-passes : Fresh rules site time packet verdict before → isFresh rules site nothingHeld time packet verdict before ≡ true
+      test-passes : Fresh site time packet verdict before → isFresh site start time packet verdict before ≡ true
       test-passes f =
           and-yes (f .forwarded) (and-yes (ap not (f .cell-packet)) (ap not (is-false live (λ l. f .slot-not-live (slot-is .0 l)))))

@@ -16,10 +16,11 @@ use Rattle.rulings.specs.declared.answers.Replacement.the-variants.{None, Addre
 use Rattle.rulings.specs.declared.answers.Answer.the-variants.{Refused, NotOurs, Judged}
 use Rattle.rulings.specs.Rules.{Rules}
 use Rattle.gateway.specs.declared.Reply.the-variants as reply
-use Rattle.history.specs.Runs.{Site, Event, judgedAt, passedAt, explainedAt}
-use Rattle.history.specs.Fresh.{nothingHeld, replacements, decays, credits, freshContacts}
+use Rattle.gateway.specs.Calls.{stateOf}
+use Rattle.history.specs.Runs.{Site, Start, coldStart, Event, judgedAt, passedAt, explainedAt}
+use Rattle.history.specs.Fresh.{replacements, decays, credits, freshContacts}
 
-abbrev pub rules : Settings → Rules
+abbrev rules : Settings → Rules
 rules set =
     record {
       threshold = set .threshold;
@@ -30,14 +31,19 @@ rules set =
       slot = λ keys h fromPlant records. cond fromPlant (h .source) (h .destination) % records;
     }
 
-abbrev pub site : Site
+abbrev site : Site
 site =
     record {
+      rules = rules;
       settings = record { threshold = 10; floor = minus 20; dmiss = 60; dconn = 10; keys = replicate 8 0 };
       cell = 10 ∷ 0 ∷ 0 ∷ 0 ∷ 8 ∷ [];
       plant = 192 ∷ 168 ∷ 0 ∷ 0 ∷ 16 ∷ [];
       records = 16;
     }
+
+-- of its state only the clock matters here
+abbrev start : Start
+start = coldStart (stateOf [] [] [] 100)
 
 -- a TCP packet with flags, from 10.0.0.machine to 192.168.0.stranger, and one back
 abbrev sent : ℕ → ℕ → ℕ → List ℕ
@@ -63,16 +69,16 @@ asked time verdict = explainedAt time (sent 1 1 2) (explanation.Forwarded verdic
 
 -- of 10.0.0.1
 abbrev F : List Event → ℕ
-F h = freshContacts rules site nothingHeld 0x0A000001 h
+F h = freshContacts site start 0x0A000001 h
 
 abbrev H : List Event → ℕ
-H h = credits rules site 0x0A000001 h
+H h = credits site 0x0A000001 h
 
 abbrev R : List Event → ℕ
 R h = replacements 0x0A000001 h
 
 abbrev D : List Event → ℕ
-D h = decays rules site 100 h
+D h = decays site start h
 
 pub record Example : Type 0 where
   pub computed : ℕ

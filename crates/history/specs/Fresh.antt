@@ -1,38 +1,31 @@
 -- Document 01, "Fresh, from history": which slots are live, which contacts are fresh, and D, H and R; from a history of calls and
--- answers, and from nothing that is stored. Where a history does not begin with a cold start, what was live then is given (`held`).
+-- answers, and from nothing that is stored. Each is counted over what the events tell. Where a history does not begin with a cold start,
+-- what was live then is the start's (`held`).
 -- Assumes nothing.
 use mathlib.Core.Bool.{Bool, true, false, not, _&&_, _||_, cond}
 use mathlib.Core.List.{List, [], _∷_, _++_}
 use mathlib.Core.Option.{Option, none, some}
 use mathlib.Core.Path.{_≡_}
-use Prim.Native.Nat.{ℕ, zero, suc, _+_, _≤_}
+use Prim.Native.Nat.{ℕ, _+_, _≤_}
 use lib.Dec.{leb, eqb}
+use Rattle.laws.specs.Times.{timesIn}
 use Rattle.packet.specs.declared.Header.{Header}
 use Rattle.packet.specs.Header.{headerOf}
-use Rattle.sides.specs.declared.Direction.{Direction}
-use Rattle.sides.specs.declared.Direction.the-variants.{FromCell, FromPlant, NotOurs}
 use Rattle.tables.specs.Clock.{multiplesPassed}
-use Rattle.settings.specs.declared.Settings.{Settings}
 use Rattle.verdicts.specs.Verdicts.{isClosing}
-use Rattle.rulings.specs.Answers.{refusalTold, verdictTold, replacedTold}
-use Rattle.rulings.specs.Rules.{Rules, cellOf}
-use Rattle.gateway.specs.Packets.{directionIn}
-use Rattle.gateway.specs.Calls.{refusalIn}
-use Rattle.history.specs.Runs.{Site, Event, judgedAt, passedAt, explainedAt}
+use Rattle.rulings.specs.Rules.{cellOf}
+use Rattle.gateway.specs.Packets.{directionIn, isFromPlant}
+use Rattle.history.specs.Runs.{Site, rulesAt, keysAt, Start, Event}
+use Rattle.history.specs.Told.{Judgement, told}
 
 -- ---- packets of ours, read from their bytes (a packet that is not ours is never asked about: only one that was judged is)
 pub record Ours : Type 0 where
   pub header : Header
   pub fromPlant : Bool
 
-abbrev pub comesFromPlant : Direction → Bool
-comesFromPlant FromCell = false
-comesFromPlant FromPlant = true
-comesFromPlant NotOurs = false
-
 abbrev pub oursOf : Site → List ℕ → Ours
 oursOf site bytes =
-    record { header = headerOf bytes; fromPlant = comesFromPlant (directionIn (site .cell) (site .plant) (headerOf bytes)) }
+    record { header = headerOf bytes; fromPlant = isFromPlant (directionIn (site .cell) (site .plant) (headerOf bytes)) }
 
 abbrev pub cellAddress : Ours → ℕ
 cellAddress packet = cellOf (packet .header) (packet .fromPlant)
@@ -41,11 +34,11 @@ cellAddress packet = cellOf (packet .header) (packet .fromPlant)
 abbrev pub closesFromPlant : Ours → Bool
 closesFromPlant packet = packet .fromPlant && isClosing (packet .header .transport .kind)
 
--- ---- what was told, by document 01's numbers
--- whether this number was told, of a verdict or of a replaced address
+-- ---- verdicts, as they are told, by document 01's numbers
+-- whether it is this number that was told
 abbrev pub tells : ℕ → Option ℕ → Bool
 tells number none = false
-tells number (some told) = eqb told number
+tells number (some verdict) = eqb verdict number
 
 -- a packet of ours was forwarded: "1 forwarded .. 2 forwarded .. 3 forwarded .. 4 forwarded"
 abbrev pub forwards : Option ℕ → Bool
@@ -79,9 +72,6 @@ isLive held dconn now [] = held now
 isLive held dconn now (last ∷ earlier) =
     leb (multiplesPassed 60 (last .time) now) dconn && (not (closesFromPlant (last .packet)) || isLive held dconn (last .time) earlier)
 
-abbrev pub nothingHeld : ℕ → ℕ → Bool
-nothingHeld slot now = false
-
 -- ---- H: "1 per verdict 2 and 2 per verdict 3"
 abbrev pub creditOf : Option ℕ → ℕ
 creditOf verdict = cond (tells 2 verdict) 1 (cond (tells 3 verdict) 2 0)
@@ -89,35 +79,36 @@ creditOf verdict = cond (tells 2 verdict) 1 (cond (tells 3 verdict) 2 0)
 -- ---- R: "the answers that name it as replaced"
 abbrev pub replacements : ℕ → List Event → ℕ
 replacements address [] = 0
-replacements address (judgedAt time bytes answered ∷ before) =
-    replacements address before + cond (tells address (replacedTold answered)) 1 0
-replacements address (passedAt time reply ∷ before) = replacements address before
-replacements address (explainedAt time bytes why ∷ before) = replacements address before
+replacements address (event ∷ before) = replacements address before + timesIn address (told event .lost)
 
--- ---- the clock: the time of the last call that was not refused, and before any call the start's. The question why passes no time.
-abbrev pub unlessRefusedBy : ℕ → ℕ → ℕ → ℕ
-unlessRefusedBy zero time clock = time
-unlessRefusedBy (suc number) time clock = clock
+-- ---- the clock: the time that it was last set to, and before that the start's
+abbrev pub orBefore : Option ℕ → ℕ → ℕ
+orBefore none before = before
+orBefore (some time) before = time
 
 abbrev pub clockAfter : ℕ → List Event → ℕ
 clockAfter start [] = start
-clockAfter start (judgedAt time bytes answered ∷ before) = unlessRefusedBy (refusalTold answered) time (clockAfter start before)
-clockAfter start (passedAt time reply ∷ before) = unlessRefusedBy (refusalIn reply) time (clockAfter start before)
-clockAfter start (explainedAt time bytes why ∷ before) = clockAfter start before
+clockAfter start (event ∷ before) = orBefore (told event .clock) (clockAfter start before)
 
-module _ (rules : Settings → Rules) (site : Site) where
+module _ (site : Site) where
   abbrev pub slotFor : Ours → ℕ
-  slotFor packet = rules (site .settings) .slot (site .settings .keys) (packet .header) (packet .fromPlant) (site .records)
+  slotFor packet = rulesAt site .slot (keysAt site) (packet .header) (packet .fromPlant) (site .records)
+
+  -- the packet that was judged
+  abbrev pub packetIn : Judgement → Ours
+  packetIn it = oursOf site (it .bytes)
 
   -- the packets forwarded on a slot
+  abbrev pub forwardedBy : ℕ → Option Judgement → List Forwarded → List Forwarded
+  forwardedBy slot none before = before
+  forwardedBy slot (some it) before =
+      cond (forwards (some (it .verdict)) && eqb (slotFor (packetIn it)) slot)
+      (record { time = it .time; packet = packetIn it } ∷ before)
+      before
+
   abbrev pub forwardedOn : ℕ → List Event → List Forwarded
   forwardedOn slot [] = []
-  forwardedOn slot (judgedAt time bytes answered ∷ before) =
-      cond (forwards (verdictTold answered) && eqb (slotFor (oursOf site bytes)) slot)
-      (record { time = time; packet = oursOf site bytes } ∷ forwardedOn slot before)
-      (forwardedOn slot before)
-  forwardedOn slot (passedAt time reply ∷ before) = forwardedOn slot before
-  forwardedOn slot (explainedAt time bytes why ∷ before) = forwardedOn slot before
+  forwardedOn slot (event ∷ before) = forwardedBy slot (told event .judged) (forwardedOn slot before)
 
   -- "A fresh contact is a forwarded cell packet whose slot was not live.": in these words, of a packet, when it came, the verdict that was
   -- told of it, and what came before it
@@ -126,35 +117,37 @@ module _ (rules : Settings → Rules) (site : Site) where
     pub cell-packet : packet .fromPlant ≡ false
     pub slot-not-live : Live (site .settings .dconn) time (forwardedOn (slotFor packet) before) → ⊥
 
-  -- D: "the multiples of Dmiss passed since the cold start"
-  abbrev pub decays : ℕ → List Event → ℕ
-  decays start history = multiplesPassed (site .settings .dmiss) start (clockAfter start history)
-
   -- H, for an address
+  abbrev pub creditBy : ℕ → Option Judgement → ℕ
+  creditBy address none = 0
+  creditBy address (some it) = cond (eqb (cellAddress (packetIn it)) address) (creditOf (some (it .verdict))) 0
+
   abbrev pub credits : ℕ → List Event → ℕ
   credits address [] = 0
-  credits address (judgedAt time bytes answered ∷ before) =
-      credits address before + cond (eqb (cellAddress (oursOf site bytes)) address) (creditOf (verdictTold answered)) 0
-  credits address (passedAt time reply ∷ before) = credits address before
-  credits address (explainedAt time bytes why ∷ before) = credits address before
+  credits address (event ∷ before) = credits address before + creditBy address (told event .judged)
 
-  module _ (held : ℕ → ℕ → Bool) where
+  module _ (start : Start) where
+    -- D: "the multiples of Dmiss passed since the cold start", or whatever start
+    abbrev pub decays : List Event → ℕ
+    decays history = multiplesPassed (site .settings .dmiss) (start .state .clock) (clockAfter (start .state .clock) history)
+
     -- whether the packet's slot is live at a moment, by what came before
     abbrev pub liveFor : Ours → ℕ → List Event → Bool
     liveFor packet now before =
-        isLive (held (slotFor packet)) (site .settings .dconn) now (forwardedOn (slotFor packet) before)
+        isLive (start .held (slotFor packet)) (site .settings .dconn) now (forwardedOn (slotFor packet) before)
 
     -- whether a contact is fresh, as a test that computes (`fresh-is`, history/proofs/Live, says that after a cold start it is those words)
     abbrev pub isFresh : ℕ → Ours → Option ℕ → List Event → Bool
     isFresh time packet verdict before = forwards verdict && (not (packet .fromPlant) && not (liveFor packet time before))
 
     -- F: the fresh contacts of an address that were forwarded, each by its weight, which by document 01's rules is 1
+    abbrev pub freshBy : ℕ → Option Judgement → List Event → ℕ
+    freshBy address none before = 0
+    freshBy address (some it) before =
+        cond (eqb (cellAddress (packetIn it)) address && isFresh (it .time) (packetIn it) (some (it .verdict)) before)
+        (rulesAt site .weight (packetIn it .header))
+        0
+
     abbrev pub freshContacts : ℕ → List Event → ℕ
     freshContacts address [] = 0
-    freshContacts address (judgedAt time bytes answered ∷ before) =
-        freshContacts address before
-        + cond (eqb (cellAddress (oursOf site bytes)) address && isFresh time (oursOf site bytes) (verdictTold answered) before)
-        (rules (site .settings) .weight (headerOf bytes))
-        0
-    freshContacts address (passedAt time reply ∷ before) = freshContacts address before
-    freshContacts address (explainedAt time bytes why ∷ before) = freshContacts address before
+    freshContacts address (event ∷ before) = freshContacts address before + freshBy address (told event .judged) before

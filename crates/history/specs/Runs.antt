@@ -1,8 +1,10 @@
--- A run of the gateway: calls one after another, and what is known of them afterwards, which is each call's input and its answer. Lists
--- stand newest first.
+-- A run of the gateway: where it begins, calls one after another, and what is known of them afterwards, which is each call's input and its
+-- answer. Lists stand newest first.
 -- Assumes nothing.
+use mathlib.Core.Bool.{Bool, false}
 use mathlib.Core.List.{List, [], _∷_}
 use Prim.Native.Nat.{ℕ}
+use lib.IntN.{ℤ, pos}
 use Rattle.settings.specs.declared.Settings.{Settings}
 use Rattle.reasons.specs.declared.Explanation.{Explanation}
 use Rattle.rulings.specs.declared.answers.Answer.{Answer}
@@ -14,10 +16,29 @@ use Rattle.gateway.specs.Why.{whyOf}
 -- "with settings, side lists and sizes unchanged": what stays in a run. Of the sizes, what is fresh depends on the number of connection
 -- records.
 pub record Site : Type 0 where
+  pub rules : Settings → Rules
   pub settings : Settings
   pub cell : List ℕ
   pub plant : List ℕ
   pub records : ℕ
+
+-- its rules by its settings, and its round keys
+abbrev pub rulesAt : Site → Rules
+rulesAt site = site .rules (site .settings)
+
+abbrev pub keysAt : Site → List ℕ
+keysAt site = site .settings .keys
+
+-- Where a run begins: a state, and what is held there. That is whether a slot is live at a moment, if nothing was forwarded on it since, and
+-- each address's count.
+pub record Start : Type 0 where
+  pub state : State
+  pub held : ℕ → ℕ → Bool
+  pub count : ℕ → ℤ
+
+-- after a cold start no slot is live, and every count is 0
+abbrev pub coldStart : State → Start
+coldStart state = record { state = state; held = λ slot now. false; count = λ address. pos 0 }
 
 -- "calls of every other sort" than a cold start: a packet's bytes that come at a time, a time alone, and the question why, of a packet's
 -- bytes at a time
@@ -26,30 +47,37 @@ pub data Call : Type 0 where
   timeAlone : ℕ → Call
   whyAt : ℕ → List ℕ → Call
 
+-- the bytes that a call brings to be judged, if any
+abbrev pub bytesIn : Call → List ℕ
+bytesIn (packetAt time bytes) = bytes
+bytesIn (timeAlone time) = []
+bytesIn (whyAt time bytes) = []
+
 -- a call, and what it was answered
 pub data Event : Type 0 where
   judgedAt : ℕ → List ℕ → Answer → Event
   passedAt : ℕ → Reply → Event
   explainedAt : ℕ → List ℕ → Explanation → Event
 
-module _ (rules : Settings → Rules) (site : Site) where
+module _ (site : Site) where
   -- one call: the very definitions that the contracts of `judge`, `pass` and `why` cite. `why` is lent everything for reading alone: it
   -- leaves the state as it was.
   unfoldable pub stateAfter : State → Call → State
-  stateAfter before (packetAt time bytes) = judged rules (site .settings) (site .cell) (site .plant) time bytes before .state
-  stateAfter before (timeAlone time) = passed rules (site .settings) time before .state
+  stateAfter before (packetAt time bytes) = judged (site .rules) (site .settings) (site .cell) (site .plant) time bytes before .state
+  stateAfter before (timeAlone time) = passed (site .rules) (site .settings) time before .state
   stateAfter before (whyAt time bytes) = before
 
   unfoldable pub eventOf : State → Call → Event
-  eventOf before (packetAt time bytes) = judgedAt time bytes (judged rules (site .settings) (site .cell) (site .plant) time bytes before .answer)
-  eventOf before (timeAlone time) = passedAt time (passed rules (site .settings) time before .answer)
-  eventOf before (whyAt time bytes) = explainedAt time bytes (whyOf rules (site .settings) (site .cell) (site .plant) time bytes before)
+  eventOf before (packetAt time bytes) = judgedAt time bytes (judged (site .rules) (site .settings) (site .cell) (site .plant) time bytes before .answer)
+  eventOf before (timeAlone time) = passedAt time (passed (site .rules) (site .settings) time before .answer)
+  eventOf before (whyAt time bytes) = explainedAt time bytes (whyOf (site .rules) (site .settings) (site .cell) (site .plant) time bytes before)
 
-  -- the state that calls leave, from a first state, and their history
-  unfoldable pub left : State → List Call → State
-  left first [] = first
-  left first (call ∷ calls) = stateAfter (left first calls) call
+  module _ (start : Start) where
+    -- the state that calls leave, and their history
+    unfoldable pub left : List Call → State
+    left [] = start .state
+    left (call ∷ calls) = stateAfter (left calls) call
 
-  unfoldable pub history : State → List Call → List Event
-  history first [] = []
-  history first (call ∷ calls) = eventOf (left first calls) call ∷ history first calls
+    unfoldable pub history : List Call → List Event
+    history [] = []
+    history (call ∷ calls) = eventOf (left calls) call ∷ history calls

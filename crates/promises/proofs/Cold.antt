@@ -10,7 +10,7 @@ use lib.IntN.{pos}
 use lib.ListN.{length, getD, replicate, length-replicate}
 use lib.Pow.{pow-pos}
 use Rattle.laws.specs.Signed.{minus}
-use Rattle.laws.proofs.Signed.{dn, le-in, one-part}
+use Rattle.laws.proofs.Signed.{le-in, one-part}
 use Rattle.laws.proofs.Tests.{true-is-not-false}
 use Rattle.settings.specs.declared.Settings.{Settings}
 use Rattle.settings.specs.Settings.{badSettings}
@@ -30,11 +30,13 @@ use Rattle.cold.specs.Cold.{coldTables}
 use Rattle.refusals.proofs.Tests.{good-start}
 use Rattle.gateway.specs.declared.Reply.the-variants.{Refused, Done}
 use Rattle.gateway.specs.Calls.{State, unlessRefused, coldState, started}
-use Rattle.history.specs.Runs.{Call, packetAt, timeAlone, whyAt}
-use Rattle.history.specs.Fresh.{oursOf, nothingHeld}
+use Rattle.history.specs.Runs.{coldStart, Call, bytesIn}
+use Rattle.history.specs.Fresh.{oursOf}
 use Rattle.books.proofs.Apart.{not-some}
 use Rattle.books.proofs.Lawful.{Lawful}
-use Rattle.books.proofs.Runs.{Setup, held, countIn, Sound, Good, AllFit}
+use Rattle.books.proofs.Slots.{heldBy}
+use Rattle.books.proofs.Invariant.{Setup, countIn, Sound, Good}
+use Rattle.books.proofs.Runs.{AllFit}
 use Rattle.promises.specs.Demand3.{Gateway, EachBelow, StartsCold, OfBytes, site, first}
 
 -- ---- what the types say
@@ -90,25 +92,23 @@ module _ (g : Gateway) (cold : StartsCold g) where
   unfoldable pub setup : Setup
   setup =
       record {
-        rules = document01;
         site = site g;
         W = 1;
         U = g .settings .threshold;
         ok = document01-lawful (g .settings) range;
         k = keys-fit (g .settings .keys) (cold .keys-are-words);
-        a = sizes .line-count .exponent;
-        few = omega (arith, sizes .line-count .most);
         narrow = omega (arith, le-in (range .dconn .high));
         some-records = subst (λ (n : ℕ). 0 < n) (sym (sizes .record-count .is)) (pow-pos (sizes .record-count .exponent));
       }
 
   -- that starts in this state
-  abbrev pub cold-state : State
+  abbrev cold-state : State
   cold-state = coldState (g .start) (g .lent)
 
-  first-is : first g ≡ cold-state
+  first-is : first g ≡ coldStart cold-state
   unfolding started
-  first-is = ap (λ (number : ℕ). unlessRefused Refused number (g .lent) (record { answer = Done; state = cold-state }) .state) (cold .not-refused)
+  first-is =
+      ap (λ (number : ℕ). coldStart (unlessRefused Refused number (g .lent) (record { answer = Done; state = cold-state }) .state)) (cold .not-refused)
 
   -- every record is 0, and no address has an entry
   zero-record : (n slot : ℕ) → _≡_ {A = ℕ} (getD (replicate n 0) slot 0) 0
@@ -120,42 +120,41 @@ module _ (g : Gateway) (cold : StartsCold g) where
   unfolding coldTables
   cold-record slot = ap isCold (zero-record (length (g .lent .tables .records)) slot) ∙ low-is-cold 0 (omega arith)
 
-  pub no-count : (address : ℕ) → countIn setup cold-state cold-state address ≡ pos 0
+  no-count : (address : ℕ) → countIn setup cold-state address ≡ pos 0
   unfolding coldTables isEmpty
   no-count address = count-cold (cold-state .tables .tags) (length (g .lent .tables .counts)) (minus 32768) refl _ _
 
-  sound : Sound setup cold-state cold-state
+  sound : Sound setup cold-state
   unfolding setup coldTables isEmpty
   sound =
       let lines : 4 * sizes .lines ≡ 4 * 2 ^ (sizes .line-count .exponent) = ap (λ (n : ℕ). 4 * n) (sizes .line-count .is) in
       record {
         records-long = length-replicate (length (g .lent .tables .records)) 0;
+        a = sizes .line-count .exponent;
+        few = omega (arith, sizes .line-count .most);
         tags-long = length-replicate (length (g .lent .tables .tags)) 0 ∙ sizes .four-each ∙ lines;
         counts-long = length-replicate (length (g .lent .tables .counts)) (minus 32768) ∙ sizes .alike ∙ sizes .four-each ∙ lines;
         once = once-cold (cold-state .tables .tags) (length (g .lent .tables .counts)) (minus 32768) refl;
       }
 
-  pub good-start-state : Good setup cold-state
-  good-start-state =
-      record {
+  -- so nothing is live there and every count is 0
+  pub good-first : Good setup (first g)
+  good-first =
+      subst (Good setup) (sym first-is)
+      (record {
         sound = sound;
         young = λ slot e. true-is-not-false (cold-record slot) e;
-        full = λ address l. omega (arith, ap dn (no-count address));
-      }
+        held-so = nothing-held;
+        count-so = λ address l. no-count address;
+        full = λ address l. omega arith;
+      })
+    where
+      nothing-held : (slot now : ℕ) → false ≡ heldBy (setup .site .settings .dconn) (g .start) (getD (cold-state .tables .records) slot 0) now
+      nothing-held slot now =
+          let young = leb (ageOf (getD (cold-state .tables .records) slot 0) + multiplesPassed 60 (g .start) now) (setup .site .settings .dconn) in
+          sym (ap (λ (t : Bool). young && not t) (cold-record slot) ∙ and-false young)
 
-  -- nothing is live yet
-  nothing-was : held setup cold-state ≡ nothingHeld
-  nothing-was =
-      λ i slot now. (ap (λ (t : Bool). leb (ageOf (getD (cold-state .tables .records) slot 0) + multiplesPassed 60 (g .start) now) (setup .site .settings .dconn) && not t) (cold-record slot)
-      ∙ and-false (leb (ageOf (getD (cold-state .tables .records) slot 0) + multiplesPassed 60 (g .start) now) (setup .site .settings .dconn))) i
-
-  -- so what holds of the general run, by what was live when it began and the state that it began in, holds of this one
-  pub so : (P : (ℕ → ℕ → Bool) → State → Type 0) → P (held setup cold-state) cold-state → P nothingHeld (first g)
-  so P p = subst (λ (s : State). P nothingHeld s) (sym first-is) (subst (λ (began : ℕ → ℕ → Bool). P began cold-state) nothing-was p)
-
-  pub all-fit : (calls : List Call) → OfBytes calls → AllFit setup cold-state calls
+  pub all-fit : (calls : List Call) → OfBytes calls → AllFit setup (first g) calls
   unfolding setup
   all-fit [] e = tt
-  all-fit (packetAt time bytes ∷ calls) e = (address-fits (oursOf (site g) bytes .fromPlant) bytes (e .0), all-fit calls (e .1))
-  all-fit (timeAlone time ∷ calls) e = (tt, all-fit calls e)
-  all-fit (whyAt time bytes ∷ calls) e = (tt, all-fit calls e)
+  all-fit (call ∷ calls) e = (address-fits (oursOf (site g) (bytesIn call) .fromPlant) (bytesIn call) (e .0), all-fit calls (e .1))

@@ -13,8 +13,8 @@ use Rattle.rulings.specs.declared.answers.Answer.{Answer}
 use Rattle.rulings.specs.Answers.{verdictTold}
 use Rattle.rulings.specs.Rules.{document01}
 use Rattle.gateway.specs.Calls.{State, startRefusalAt, started}
-use Rattle.history.specs.Runs.{Site, Call, packetAt, timeAlone, whyAt, Event, judgedAt, history}
-use Rattle.history.specs.Fresh.{oursOf, cellAddress, nothingHeld, freshContacts, decays, credits, replacements}
+use Rattle.history.specs.Runs.{Site, Start, coldStart, Call, bytesIn, Event, judgedAt, history}
+use Rattle.history.specs.Fresh.{oursOf, cellAddress, freshContacts, decays, credits, replacements}
 
 -- ---- a gateway and its one cold start
 -- its settings and side lists, the tables and clock that it is lent, and the time at which it starts cold
@@ -37,33 +37,31 @@ pub record StartsCold (g : Gateway) : Type 0 where
 
 abbrev pub OfBytes : List Call → Type 0
 OfBytes [] = Unit {0}
-OfBytes (packetAt time bytes ∷ calls) = EachBelow 256 bytes × OfBytes calls
-OfBytes (timeAlone time ∷ calls) = OfBytes calls
-OfBytes (whyAt time bytes ∷ calls) = OfBytes calls
+OfBytes (call ∷ calls) = EachBelow 256 (bytesIn call) × OfBytes calls
 
 -- ---- its run
 module _ (g : Gateway) where
   -- "with settings, side lists and sizes unchanged"
   abbrev pub site : Site
-  site = record { settings = g .settings; cell = g .cell; plant = g .plant; records = length (g .lent .tables .records) }
+  site = record { rules = document01; settings = g .settings; cell = g .cell; plant = g .plant; records = length (g .lent .tables .records) }
 
-  -- the state that the cold start leaves
-  abbrev pub first : State
-  first = started (g .settings) (g .start) (g .lent) .state
+  -- "From its one cold start": the state that it leaves
+  abbrev pub first : Start
+  first = coldStart (started (g .settings) (g .start) (g .lent) .state)
 
   -- what happened, call by call, from there on
   abbrev pub happened : List Call → List Event
-  happened calls = history document01 site first calls
+  happened calls = history site first calls
 
   -- of a history: an address's fresh contacts that were forwarded, D, and the address's H and R
   abbrev pub F : ℕ → List Event → ℕ
-  F address h = freshContacts document01 site nothingHeld address h
+  F address h = freshContacts site first address h
 
   abbrev pub D : List Event → ℕ
-  D h = decays document01 site (g .start) h
+  D h = decays site first h
 
   abbrev pub H : ℕ → List Event → ℕ
-  H address h = credits document01 site address h
+  H address h = credits site address h
 
   abbrev pub R : ℕ → List Event → ℕ
   R address h = replacements address h

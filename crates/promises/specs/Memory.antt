@@ -13,7 +13,6 @@ use Rattle.records.specs.Records.{isCold, ageOf}
 use Rattle.tables.specs.Clock.{multiplesPassed}
 use Rattle.rulings.specs.declared.answers.Answer.{Answer}
 use Rattle.rulings.specs.Answers.{verdictTold}
-use Rattle.rulings.specs.Rules.{document01}
 use Rattle.gateway.specs.Calls.{State}
 use Rattle.history.specs.Runs.{Call, Event, judgedAt, left}
 use Rattle.history.specs.Fresh.{oursOf, Forwarded, Live, forwardedOn, Fresh}
@@ -22,13 +21,13 @@ use Rattle.promises.specs.Demand3.{Gateway, site, first, happened}
 module _ (g : Gateway) where
   -- the state that calls leave, a slot's record in it, and the packets forwarded on the slot
   abbrev pub stateAfterAll : List Call → State
-  stateAfterAll calls = left document01 (site g) (first g) calls
+  stateAfterAll calls = left (site g) (first g) calls
 
   abbrev pub recordAt : List Call → ℕ → ℕ
   recordAt calls slot = getD (stateAfterAll calls .tables .records) slot 0
 
   abbrev pub forwardedAt : List Call → ℕ → List Forwarded
-  forwardedAt calls slot = forwardedOn document01 (site g) slot (happened g calls)
+  forwardedAt calls slot = forwardedOn (site g) slot (happened g calls)
 
   pub record Memory (calls : List Call) : Type 0 where
     pub marked-exactly-if-live : (slot : ℕ) → slot < site g .records
@@ -39,4 +38,4 @@ module _ (g : Gateway) where
     -- "4 forwarded, fresh contact": wherever a packet was answered, by what came before
     pub four-exactly-if-fresh : (after before : List Event) (time : ℕ) (bytes : List ℕ) (answered : Answer)
         → happened g calls ≡ after ++ (judgedAt time bytes answered ∷ before)
-        → (verdictTold answered ≡ some 4) ↔ Fresh document01 (site g) time (oursOf (site g) bytes) (verdictTold answered) before
+        → (verdictTold answered ≡ some 4) ↔ Fresh (site g) time (oursOf (site g) bytes) (verdictTold answered) before

@@ -5,6 +5,7 @@ use mathlib.Core.Bool.{Bool, true, _&&_}
 use mathlib.Core.List.{List, [], _∷_, map}
 use mathlib.Core.Path.{_≡_, refl, ap, _∙_}
 use Prim.Native.Nat.{ℕ, _^_, _<_}
+use native.Mathlib.Nat.{add-zero}
 use native.Mathlib.Omega.{arith}
 use lib.Dec.{ltb}
 use lib.IntN.{ℤ, pos}
@@ -12,7 +13,7 @@ use lib.ListN.{replicate}
 use borrow.Author.Tests.{ltb-true}
 use Rattle.laws.specs.Signed.{minus}
 use Rattle.laws.specs.Search.{every, firstBelow, foremost}
-use Rattle.laws.specs.Times.{times, howMany}
+use Rattle.laws.specs.Times.{times, howMany, timesIn}
 use Rattle.laws.proofs.Tests.{and-left, and-right}
 use Rattle.settings.specs.Settings.{badSettings}
 use Rattle.permute.specs.Permutation.{inverses, nibbles, unround, unrounds}
@@ -39,7 +40,7 @@ use Rattle.cold.specs.Cold.{coldTables}
 use Rattle.refusals.specs.Refusals.{startRefusal, earlyRefusal}
 use Rattle.gateway.specs.Packets.{ours, byDirection}
 use Rattle.gateway.specs.Calls.{State, stateOf, After, started, judged}
-use Rattle.history.specs.Runs.{Call, packetAt, whyAt, Event, judgedAt, stateAfter, eventOf, left, history}
+use Rattle.history.specs.Runs.{coldStart, Call, packetAt, whyAt, Event, judgedAt, stateAfter, eventOf, left, history}
 use Rattle.books.proofs.Apart.{same-head, same-tail}
 use Rattle.books.proofs.Runs.{fours}
 use Rattle.promises.specs.Demand3.{EachBelow, StartsCold, OfBytes, site, first, happened, F, D, H, R, most, least}
@@ -163,31 +164,31 @@ exactly-made =
 abbrev pub cold : State
 cold = stateBefore []
 
-left-is : (rows : List Row) → made rows ≡ said rows → left document01 (site gateway) cold (callsOf rows) ≡ stateBefore rows
+left-is : (rows : List Row) → made rows ≡ said rows → left (site gateway) (coldStart cold) (callsOf rows) ≡ stateBefore rows
 unfolding left stateAfter
 left-is [] e = refl
 left-is (row ∷ rows) e =
     ap (λ (s : State). judged document01 (gateway .settings) (gateway .cell) (gateway .plant) (row .time) (row .bytes) s .state) (left-is rows (same-tail e))
     ∙ ap (λ (after : After Answer). after .state) (same-head e)
 
-history-is : (rows : List Row) → made rows ≡ said rows → history document01 (site gateway) cold (callsOf rows) ≡ eventsOf rows
+history-is : (rows : List Row) → made rows ≡ said rows → history (site gateway) (coldStart cold) (callsOf rows) ≡ eventsOf rows
 unfolding left history eventOf
 history-is [] e = refl
 history-is (row ∷ rows) e =
     λ i. judgedAt (row .time) (row .bytes) (answer i) ∷ history-is rows (same-tail e) i
   where
-    answer : judged document01 (gateway .settings) (gateway .cell) (gateway .plant) (row .time) (row .bytes) (left document01 (site gateway) cold (callsOf rows)) .answer
+    answer : judged document01 (gateway .settings) (gateway .cell) (gateway .plant) (row .time) (row .bytes) (left (site gateway) (coldStart cold) (callsOf rows)) .answer
         ≡ Judged (row .verdict) (row .count) (row .replaced)
     answer =
         ap (λ (s : State). judged document01 (gateway .settings) (gateway .cell) (gateway .plant) (row .time) (row .bytes) s .answer) (left-is rows (same-tail e))
         ∙ ap (λ (after : After Answer). after .answer) (same-head e)
 
-pub cold-is : first gateway ≡ cold
+pub cold-is : first gateway .state ≡ cold
 unfolding started startRefusal badSettings badSizes coldTables
 cold-is = refl
 
 happened-is : (rows : List Row) → made rows ≡ said rows → happened gateway (callsOf rows) ≡ eventsOf rows
-happened-is rows e = ap (λ (s : State). history document01 (site gateway) s (callsOf rows)) cold-is ∙ history-is rows e
+happened-is rows e = ap (λ (s : State). history (site gateway) (coldStart s) (callsOf rows)) cold-is ∙ history-is rows e
 
 -- ---- the premises of demand 3 are met
 abbrev allBelow : ℕ → List ℕ → Bool
@@ -212,9 +213,9 @@ unfolding startRefusal badSettings badSizes
 starts = record { not-refused = refl; keys-are-words = each-below (2 ^ 32) (gateway .settings .keys) refl }
 
 -- fresh contacts, from the history, by what was answered
-fresh-is : (rows : List Row) → made rows ≡ said rows → bytesOf rows ≡ true → F gateway machine (happened gateway (callsOf rows)) ≡ fours document01 (site gateway) machine (eventsOf rows)
+fresh-is : (rows : List Row) → made rows ≡ said rows → bytesOf rows ≡ true → F gateway machine (happened gateway (callsOf rows)) ≡ fours (site gateway) machine (eventsOf rows)
 fresh-is rows e b =
-    answered-as-fresh gateway starts (callsOf rows) (of-bytes rows b) machine ∙ ap (fours document01 (site gateway) machine) (happened-is rows e)
+    answered-as-fresh gateway starts (callsOf rows) (of-bytes rows b) machine ∙ ap (fours (site gateway) machine) (happened-is rows e)
 
 -- ---- all that is allowed: seven, by T 2, D 1, H 2 and R 1
 seven : F gateway machine (happened gateway allowed) ≡ 7
@@ -222,7 +223,7 @@ unfolding every firstBelow foremost holds rankAt rankOf bestNumber bestIn decide
 seven = fresh-is allRows all-made refl
 
 each-counts : (D gateway (happened gateway allowed) ≡ 1) × (H gateway machine (happened gateway allowed) ≡ 2) × (R gateway machine (happened gateway allowed) ≡ 1)
-unfolding howMany multiplesPassed every firstBelow foremost holds rankAt rankOf bestNumber bestIn decided headerOf
+unfolding howMany timesIn multiplesPassed every firstBelow foremost badSettings holds rankAt rankOf bestNumber bestIn decided headerOf badSizes startRefusal started
 each-counts =
     let h = happened-is allRows all-made in
     (ap (D gateway) h, ap (H gateway machine) h, ap (R gateway machine) h)
@@ -249,7 +250,7 @@ pub blocked-after-T : (before : List Event)
     × (F gateway machine before ≡ least gateway)
 unfolding left stateAfter eventOf history every firstBelow foremost holds rankAt rankOf bestNumber bestIn decided headerOf
 blocked-after-T =
-    (happened gateway asked, happened-exactly, fresh-is twoRows (same-tail exactly-made) refl)
+    (happened gateway asked, happened-exactly, add-zero (F gateway machine (happened gateway (callsOf twoRows))) ∙ fresh-is twoRows (same-tail exactly-made) refl)
   where
     asked : List Call
     asked = whyAt 100 (syn 1 11211) ∷ callsOf twoRows
