@@ -24,7 +24,7 @@ use Rattle.tables.specs.Clock.{multiplesPassed, timePassed}
 use Rattle.tables.proofs.Jumps.{passed-none, passed-add}
 use Rattle.rulings.specs.Rules.{Rules}
 use Rattle.gateway.specs.Calls.{State, onward}
-use Rattle.history.specs.Runs.{Site, rulesAt, keysAt, Start, Event}
+use Rattle.history.specs.Runs.{Site, Start, Event}
 use Rattle.history.specs.Told.{Judgement, told}
 use Rattle.history.specs.Fresh.{oursOf, cellAddress, tells, Forwarded, replacements, orBefore, packetIn, forwardedBy, forwardedOn, creditBy, credits, isFresh, freshBy, freshContacts}
 use Rattle.books.proofs.Account.{Holds, at-start, recast, on-named, on-decay}
@@ -37,9 +37,9 @@ pub record Setup : Type 0 where
   pub site : Site
   pub W : ℕ
   pub U : ℕ
-  pub ok : Lawful (rulesAt site) W U
-  pub k : Keys (keysAt site)
-  pub narrow : site .settings .dconn ≤ 62
+  pub ok : Lawful (site .rules) W U
+  pub k : Keys (site .placing .keys)
+  pub narrow : site .limits .dconn ≤ 62
   pub some-records : 0 < site .records
 
 -- ---- a state, in whatever run
@@ -50,7 +50,7 @@ linesIn s = length (s .tables .tags) / 4
 module _ (x : Setup) where
   -- the state at a later time
   abbrev pub timed : ℕ → State → State
-  timed time s = onward (rulesAt (x .site) .point) (x .site .settings) time s
+  timed time s = onward (x .site .rules .point) (x .site .limits) time s
 
   -- the clock is then that time
   pub clock-at : (s : State) (time : ℕ) → s .clock ≤ time → timed time s .clock ≡ time
@@ -59,7 +59,7 @@ module _ (x : Setup) where
 
   -- an address's count
   abbrev pub countIn : State → ℕ → ℤ
-  countIn s address = countAt (keysAt (x .site)) (linesIn s) (s .tables .tags) (s .tables .counts) address
+  countIn s address = countAt (x .site .placing .keys) (linesIn s) (s .tables .tags) (s .tables .counts) address
 
   -- how the tables lie: there are 2 ^ a lines now
   pub record Sound (s : State) : Type 0 where
@@ -70,13 +70,18 @@ module _ (x : Setup) where
     pub counts-long : length (s .tables .counts) ≡ 4 * 2 ^ a
     pub once : Once (s .tables .tags) (s .tables .counts)
 
-  -- a start whose state a run may begin in, and of which what is held there is true
+  -- a packet of bytes has a cell address of 32 bits
+  abbrev pub Fit : List ℕ → Type 0
+  Fit bytes = cellAddress (oursOf (x .site) bytes) < 2 ^ 32
+
+  -- a start that a run may begin at: what is held there is so of its state
   pub record Good (start : Start) : Type 0 where
+    pub placing-same : start .state .placing ≡ x .site .placing
     pub sound : Sound (start .state)
     pub young : (slot : ℕ) → isCold (getD (start .state .tables .records) slot 0) ≡ false
-        → ageOf (getD (start .state .tables .records) slot 0) ≤ x .site .settings .dconn
+        → ageOf (getD (start .state .tables .records) slot 0) ≤ x .site .limits .dconn
     pub held-so : (slot now : ℕ)
-        → start .held slot now ≡ heldBy (x .site .settings .dconn) (start .state .clock) (getD (start .state .tables .records) slot 0) now
+        → start .held slot now ≡ heldBy (x .site .limits .dconn) (start .state .clock) (getD (start .state .tables .records) slot 0) now
     pub count-so : (address : ℕ) → address < 2 ^ 32 → countIn (start .state) address ≡ start .count address
     pub full : (address : ℕ) → address < 2 ^ 32 → dn (start .count address) < 32768
 
@@ -86,13 +91,13 @@ module _ (x : Setup) (start : Start) where
   site = x .site
 
   abbrev r : Rules
-  r = rulesAt site
+  r = site .rules
 
   abbrev dconn : ℕ
-  dconn = site .settings .dconn
+  dconn = site .limits .dconn
 
   abbrev dmiss : ℕ
-  dmiss = site .settings .dmiss
+  dmiss = site .limits .dmiss
 
   abbrev began : ℕ
   began = start .state .clock
@@ -110,6 +115,7 @@ module _ (x : Setup) (start : Start) where
   -- the invariant
   pub record Run (s : State) (h : List Event) : Type 0 where
     pub late : began ≤ s .clock
+    pub placing-same : s .placing ≡ site .placing
     pub sound : Sound x s
     pub slots : (slot : ℕ) → slot < site .records → SlotWith s slot (forwardedOn site slot h)
     pub books : (address : ℕ) → address < 2 ^ 32
@@ -120,6 +126,7 @@ module _ (x : Setup) (start : Start) where
   run-start g =
       record {
         late = omega arith;
+        placing-same = g .placing-same;
         sound = g .sound;
         slots = λ slot l. kept-start dconn began (getD (start .state .tables .records) slot 0) (start .held slot) (g .held-so slot) (g .young slot);
         books = λ address l. recast (at-start (r .threshold) (x .U) (start .count address) (g .full address l)) (g .count-so address l) refl
@@ -136,7 +143,7 @@ module _ (x : Setup) (start : Start) where
     multiples = multiplesPassed dmiss (s .clock) time
 
     abbrev place : ℕ → Place
-    place address = placeOf (keysAt site) address (linesIn s)
+    place address = placeOf (site .placing .keys) address (linesIn s)
 
     at-time : max (s .clock) time ≡ time
     at-time = omega arith
@@ -147,6 +154,7 @@ module _ (x : Setup) (start : Start) where
         rw at-time
         (record {
           late = le-trans (i .late) l;
+          placing-same = i .placing-same;
           sound = record {
             records-long = length-map (s .tables .records) _ ∙ i .sound .records-long;
             a = i .sound .a;
@@ -184,11 +192,12 @@ module _ (x : Setup) (start : Start) where
       (credits site address h + creditBy site address judged) (replacements address h + timesIn address lost)
 
   module _ {s : State} {h : List Event} (event : Event) {judged : Option Judgement} (so : told event .judged ≡ judged) where
-    pub run-told : began ≤ s .clock → Sound x s → ((slot : ℕ) → slot < site .records → SlotAfter s h slot judged)
+    pub run-told : began ≤ s .clock → s .placing ≡ site .placing → Sound x s → ((slot : ℕ) → slot < site .records → SlotAfter s h slot judged)
         → ((address : ℕ) → address < 2 ^ 32 → BooksAfter s h address (told event .lost) judged) → Run s (event ∷ h)
-    run-told late sound slots books =
+    run-told late same sound slots books =
         record {
           late = late;
+          placing-same = same;
           sound = sound;
           slots = λ slot q. subst (SlotAfter s h slot) (sym so) (slots slot q);
           books = λ address q. subst (BooksAfter s h address (told event .lost)) (sym so) (books address q);
@@ -212,13 +221,13 @@ module _ (x : Setup) (start : Start) where
     pub time : s .clock ≡ orBefore (told event .clock) clock
     pub rightly : Rightly h (told event .judged)
 
-  -- a quiet event judges no packet of ours: it adds nothing to any slot or account, and has only to tell the time. This is one fact for
-  -- every sort of call that leaves the tables.
+  -- A quiet event judges no packet of ours. What was true of the state before it, or at its time, stays true after it: it adds nothing to
+  -- any slot or account. This is one fact for every sort of call.
   pub stepped-quiet : {clock : ℕ} {s : State} {h : List Event} → Run s h → (event : Event) → told event .judged ≡ none
       → s .clock ≡ orBefore (told event .clock) clock → Stepped clock h s event
   stepped-quiet {s = s} {h = h} i event quiet time =
       record {
-        run = run-told event quiet (i .late) (i .sound) (i .slots) (λ address q.
+        run = run-told event quiet (i .late) (i .placing-same) (i .sound) (i .slots) (λ address q.
             recast (on-named (i .books address q) (timesIn address (told event .lost)) (inl refl)) refl
             (sym (add-zero (freshContacts site start address h))) refl
             (ap (λ (n : ℕ). n * r .point) (sym (add-zero (credits site address h)))) refl);

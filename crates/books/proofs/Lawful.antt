@@ -1,14 +1,14 @@
--- What is asked of a run's rules, and of the settings, keys and sizes that stay in it. Document 01's rules have it for all settings in
--- their range, and later rules may have it too: the proof is over any that do.
+-- What is asked of a run's rules. A gateway's own have it for all limits in their range, and later ones may have it too: the proof is over
+-- any that do.
 -- Assumes nothing.
 use mathlib.Core.Bool.{Bool}
-use mathlib.Core.List.{List}
 use mathlib.Core.Option.{some}
 use mathlib.Core.Path.{_≡_}
 use Prim.Native.Nat.{ℕ, suc, _+_, _≤_, _<_}
 use lib.IntN.{ℤ}
 use Rattle.laws.proofs.Signed.{up, dn}
 use Rattle.packet.specs.declared.Header.{Header}
+use Rattle.places.specs.declared.Placing.{Placing}
 use Rattle.rulings.specs.Rules.{Rules}
 
 -- W: the heaviest contact. U: the highest count that a forwarded contact makes. The count of 16 bits has room for it.
@@ -21,4 +21,4 @@ pub record Lawful (rules : Rules) (W U : ℕ) : Type 0 where
   pub floor-low : up (rules .floor) ≡ 0
   pub floor-near : dn (rules .floor) < 32768
   pub attempt-up : (h : Header) (c d : ℤ) → rules .attempt h c ≡ some d → (up c ≤ up d) × (dn d ≤ dn c)
-  pub slot-lt : (keys : List ℕ) (h : Header) (fromPlant : Bool) (records : ℕ) → 0 < records → rules .slot keys h fromPlant records < records
+  pub slot-lt : (placing : Placing) (h : Header) (fromPlant : Bool) (records : ℕ) → 0 < records → rules .slot placing h fromPlant records < records

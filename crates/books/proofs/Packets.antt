@@ -20,6 +20,7 @@ use Rattle.packet.specs.Header.{headerOf, headerRefusal}
 use Rattle.sides.specs.declared.Direction.{Direction}
 use Rattle.sides.specs.declared.Direction.the-variants.{FromCell, FromPlant, NotOurs}
 use Rattle.places.specs.declared.Place.{Place}
+use Rattle.places.specs.declared.Placing.{Placing}
 use Rattle.places.specs.Places.{placeOf}
 use Rattle.records.specs.Records.{marksOf, isUnmarked, isCold}
 use Rattle.counts.specs.Counts.{isBlocked}
@@ -40,7 +41,7 @@ use Rattle.rulings.specs.Rulings.{countedBy, verdictBy, newCount, rulingOf}
 use Rattle.gateway.specs.Packets.{Outcome, spotOf, rulingAt, replacementOf, settled, ours, directionIn, isFromPlant, byDirection}
 use Rattle.refusals.proofs.Tests.{packet-in-order}
 use Rattle.gateway.specs.Calls.{State, After, numberOr, unlessRefused, packetRefusal, accepted, judged}
-use Rattle.history.specs.Runs.{Site, rulesAt, keysAt, Start, Event, judgedAt}
+use Rattle.history.specs.Runs.{Site, Start, Event, judgedAt}
 use Rattle.history.specs.Told.{judgementBy, oneOrNone}
 use Rattle.history.specs.Fresh.{Ours, oursOf, cellAddress, forwards, creditOf, replacements, slotFor, forwardedOn, credits, isFresh, freshContacts}
 use Rattle.books.proofs.Apart.{twice-not, not-some}
@@ -48,7 +49,7 @@ use Rattle.books.proofs.Account.{StaysOrNamed, reaches, under, recast, 
 use Rattle.books.proofs.Slots.{toldOf, isFour, Ruled, ruled, forwarded-record, dropped-record, Kept, kept-forwarded}
 use Rattle.books.proofs.Writes.{countAt, own-count, other-count}
 use Rattle.books.proofs.Own.{NoLower, own-account}
-use Rattle.books.proofs.Invariant.{Setup, linesIn, timed, clock-at, countIn, SlotWith, BooksWith, Run, run-onward, run-told, Rightly, Stepped, stepped-quiet}
+use Rattle.books.proofs.Invariant.{Setup, linesIn, timed, clock-at, countIn, Fit, SlotWith, BooksWith, Run, run-onward, run-told, Rightly, Stepped, stepped-quiet}
 
 -- a verdict of ours is told as the judgement of a packet
 judgement-is : (time : ℕ) (bytes : List ℕ) (verdict : Verdict)
@@ -65,13 +66,13 @@ module _ (x : Setup) (start : Start) where
   site = x .site
 
   abbrev keys : List ℕ
-  keys = keysAt site
+  keys = site .placing .keys
 
   abbrev r : Rules
-  r = rulesAt site
+  r = site .rules
 
   abbrev dconn : ℕ
-  dconn = site .settings .dconn
+  dconn = site .limits .dconn
 
   abbrev began : ℕ
   began = start .state .clock
@@ -87,7 +88,7 @@ module _ (x : Setup) (start : Start) where
   R = replacements
 
   -- ---- a packet of ours is judged, at the state's own time
-  module _ (s : State) (h : List Event) (i : Run x start s h) (bytes : List ℕ) (small : cellAddress (oursOf site bytes) < 2 ^ 32) where
+  module _ (s : State) (h : List Event) (i : Run x start s h) (bytes : List ℕ) (small : Fit x bytes) where
     abbrev packet : Ours
     packet = oursOf site bytes
 
@@ -135,6 +136,7 @@ module _ (x : Setup) (start : Start) where
     abbrev judgedState : State
     judgedState =
         record {
+          placing = s .placing;
           tables = record { records = set (s .tables .records) slot byteAfter; tags = wrote new .tags; counts = wrote new .counts };
           clock = s .clock;
         }
@@ -143,7 +145,7 @@ module _ (x : Setup) (start : Start) where
     judgedEvent = judgedAt (s .clock) bytes (answer.Judged verdict (countedBy count new .count) (goneBy new))
 
     slot-lt : slot < site .records
-    slot-lt = x .ok .slot-lt keys (packet .header) (packet .fromPlant) (site .records) (x .some-records)
+    slot-lt = x .ok .slot-lt (site .placing) (packet .header) (packet .fromPlant) (site .records) (x .some-records)
 
     here : SlotWith x start s slot (forwardedOn site slot h)
     here = i .slots slot slot-lt
@@ -273,7 +275,7 @@ module _ (x : Setup) (start : Start) where
 
     run-judged : Run x start judgedState (judgedEvent ∷ h)
     run-judged =
-        run-told x start judgedEvent (judgement-is (s .clock) bytes verdict) (i .late)
+        run-told x start judgedEvent (judgement-is (s .clock) bytes verdict) (i .late) (i .placing-same)
         (record {
           records-long = length-set (s .tables .records) slot byteAfter ∙ i .sound .records-long;
           a = a;
@@ -303,37 +305,34 @@ module _ (x : Setup) (start : Start) where
         }
 
   -- ---- a packet of ours, as the gateway judges it
-  -- its outcome by the number of records and whether it comes from the plant
-  abbrev outcomeBy : List ℕ → Tables → ℕ → Bool → Outcome
-  outcomeBy bytes tables records fromPlant =
-      let spot = spotOf r keys (headerOf bytes) fromPlant records (length (tables .tags)) in
-      settled keys spot (rulingAt r (headerOf bytes) fromPlant spot tables) tables
+  -- its outcome by what places it, the number of records and whether it comes from the plant
+  abbrev outcomeBy : List ℕ → Tables → Placing → ℕ → Bool → Outcome
+  outcomeBy bytes tables placing records fromPlant =
+      let spot = spotOf (r .slot) placing (headerOf bytes) fromPlant records (length (tables .tags)) in
+      settled (placing .keys) spot (rulingAt r (headerOf bytes) fromPlant spot tables) tables
 
-  abbrev stateBy : Outcome → ℕ → State
-  stateBy outcome clock = record { tables = outcome .tables; clock = clock }
+  -- the state that it leaves
+  abbrev stateBy : State → Outcome → State
+  stateBy s outcome = record { placing = s .placing; tables = outcome .tables; clock = s .clock }
 
-  module _ (s : State) (h : List Event) (i : Run x start s h) (bytes : List ℕ) (small : cellAddress (oursOf site bytes) < 2 ^ 32) where
+  module _ (s : State) (h : List Event) (i : Run x start s h) (bytes : List ℕ) (small : Fit x bytes) where
     ours-is : (fromPlant : Bool) → oursOf site bytes .fromPlant ≡ fromPlant
-        → outcomeBy bytes (s .tables) (site .records) (oursOf site bytes .fromPlant) ≡ ours (site .rules) (site .settings) (headerOf bytes) fromPlant (s .tables)
+        → outcomeBy bytes (s .tables) (site .placing) (site .records) (oursOf site bytes .fromPlant) ≡ ours r (s .placing) (headerOf bytes) fromPlant (s .tables)
     unfolding ours
-    ours-is fromPlant e = λ j. outcomeBy bytes (s .tables) (sym (i .sound .records-long) j) (e j)
+    ours-is fromPlant e = λ j. outcomeBy bytes (s .tables) (sym (i .placing-same) j) (sym (i .sound .records-long) j) (e j)
 
     stepped-ours : (clock : ℕ) (fromPlant : Bool) → oursOf site bytes .fromPlant ≡ fromPlant
-        → Stepped x start clock h (stateBy (ours (site .rules) (site .settings) (headerOf bytes) fromPlant (s .tables)) (s .clock))
-        (judgedAt (s .clock) bytes (ours (site .rules) (site .settings) (headerOf bytes) fromPlant (s .tables) .answer))
+        → Stepped x start clock h (stateBy s (ours r (s .placing) (headerOf bytes) fromPlant (s .tables)))
+        (judgedAt (s .clock) bytes (ours r (s .placing) (headerOf bytes) fromPlant (s .tables) .answer))
     unfolding rulingOf
     stepped-ours clock fromPlant e =
-        subst (λ (outcome : Outcome). Stepped x start clock h (stateBy outcome (s .clock)) (judgedAt (s .clock) bytes (outcome .answer))) (ours-is fromPlant e)
+        subst (λ (outcome : Outcome). Stepped x start clock h (stateBy s outcome) (judgedAt (s .clock) bytes (outcome .answer))) (ours-is fromPlant e)
         (stepped-judged s h i bytes small clock)
 
   -- ---- any packet
-  -- a packet whose bytes are bytes has an address of 32 bits
-  abbrev pub Fit : List ℕ → Type 0
-  Fit bytes = cellAddress (oursOf site bytes) < 2 ^ 32
-
-  module _ (s : State) (h : List Event) (i : Run x start s h) (time : ℕ) (bytes : List ℕ) (small : Fit bytes) where
+  module _ (s : State) (h : List Event) (i : Run x start s h) (time : ℕ) (bytes : List ℕ) (small : Fit x bytes) where
     abbrev by : Direction → After Answer
-    by direction = accepted (site .rules) (site .settings) (headerOf bytes) direction time s
+    by direction = accepted (site .rules) (site .limits) (headerOf bytes) direction time s
 
     by-direction : s .clock ≤ time → (direction : Direction) → directionIn (site .cell) (site .plant) (headerOf bytes) ≡ direction
         → Stepped x start (s .clock) h (by direction .state) (judgedAt time bytes (by direction .answer))
@@ -346,24 +345,24 @@ module _ (x : Setup) (start : Start) where
         (clock-at x s time l) (stepped-ours (timed x time s) h (run-onward x start time l i) bytes small (s .clock) true (ap isFromPlant e))
     by-direction l NotOurs e = stepped-quiet x start (run-onward x start time l i) (judgedAt time bytes answer.NotOurs) refl (clock-at x s time l)
 
-    early : packetRefusal (site .settings) (site .cell) (site .plant) time bytes s ≡ 0 → s .clock ≤ time
+    early : packetRefusal (site .limits) (site .cell) (site .plant) time bytes s ≡ 0 → s .clock ≤ time
     early e =
-        packet-in-order (site .settings) (length (s .tables .records)) (length (s .tables .tags)) (length (s .tables .counts)) (site .cell) (site .plant) (s .clock) time
+        packet-in-order (site .limits) (length (s .tables .records)) (length (s .tables .tags)) (length (s .tables .counts)) (site .cell) (site .plant) (s .clock) time
         (first-none _ (headerRefusal bytes) e)
       where
         first-none : (m n : ℕ) → numberOr m n ≡ 0 → m ≡ 0
         first-none zero n q = refl
         first-none (suc m) n q = q
 
-    pub stepped-packet : Stepped x start (s .clock) h (judged (site .rules) (site .settings) (site .cell) (site .plant) time bytes s .state)
-        (judgedAt time bytes (judged (site .rules) (site .settings) (site .cell) (site .plant) time bytes s .answer))
+    pub stepped-packet : Stepped x start (s .clock) h (judged (site .rules) (site .limits) (site .cell) (site .plant) time bytes s .state)
+        (judgedAt time bytes (judged (site .rules) (site .limits) (site .cell) (site .plant) time bytes s .answer))
     unfolding judged
-    stepped-packet = go (packetRefusal (site .settings) (site .cell) (site .plant) time bytes s) refl
+    stepped-packet = go (packetRefusal (site .limits) (site .cell) (site .plant) time bytes s) refl
       where
         after : After Answer
         after = by (directionIn (site .cell) (site .plant) (headerOf bytes))
 
-        go : (n : ℕ) → packetRefusal (site .settings) (site .cell) (site .plant) time bytes s ≡ n
+        go : (n : ℕ) → packetRefusal (site .limits) (site .cell) (site .plant) time bytes s ≡ n
             → Stepped x start (s .clock) h (unlessRefused answer.Refused n s after .state) (judgedAt time bytes (unlessRefused answer.Refused n s after .answer))
         go zero e = by-direction (early e) (directionIn (site .cell) (site .plant) (headerOf bytes)) refl
         go (suc n) e = stepped-quiet x start i (judgedAt time bytes (answer.Refused (suc n))) refl refl

@@ -17,24 +17,29 @@ use Rattle.refusals.proofs.Tests.{time-in-order}
 use Rattle.gateway.specs.declared.Reply.{Reply}
 use Rattle.gateway.specs.declared.Reply.the-variants.{Refused, Done}
 use Rattle.gateway.specs.Calls.{State, After, unlessRefused, timeRefusalAt, passed}
-use Rattle.history.specs.Runs.{Site, rulesAt, Start, Call, packetAt, timeAlone, whyAt, bytesIn, Event, judgedAt, passedAt, explainedAt, stateAfter, eventOf, left, history}
+use Rattle.history.specs.Runs.{Site, Start, Call, packetAt, timeAlone, whyAt, bytesIn, Event, judgedAt, passedAt, explainedAt, stateAfter, eventOf, left, history}
 use Rattle.history.specs.Told.{Judgement, judgementBy, told}
 use Rattle.history.specs.Fresh.{oursOf, cellAddress, tells, replacements, orBefore, clockAfter, packetIn, decays, credits, isFresh, freshBy, freshContacts}
 use Rattle.books.proofs.Apart.{same-head, same-tail, not-nil}
 use Rattle.books.proofs.Account.{holds-bound}
-use Rattle.books.proofs.Invariant.{Setup, timed, clock-at, Good, Run, run-start, run-onward, Enough, Rightly, Stepped, stepped-quiet}
-use Rattle.books.proofs.Packets.{Fit, stepped-packet}
+use Rattle.books.proofs.Invariant.{Setup, timed, clock-at, Fit, Good, Run, run-start, run-onward, Enough, Rightly, Stepped, stepped-quiet}
+use Rattle.books.proofs.Packets.{stepped-packet}
 
 -- the packets of an address that were answered 4, each by its weight
 module _ (site : Site) where
   abbrev fourBy : ℕ → Option Judgement → ℕ
   fourBy address none = 0
   fourBy address (some it) =
-      cond (eqb (cellAddress (packetIn site it)) address && tells 4 (some (it .verdict))) (rulesAt site .weight (packetIn site it .header)) 0
+      cond (eqb (cellAddress (packetIn site it)) address && tells 4 (some (it .verdict))) (site .rules .weight (packetIn site it .header)) 0
 
   abbrev pub fours : ℕ → List Event → ℕ
   fours address [] = 0
   fours address (event ∷ before) = fours address before + fourBy address (told event .judged)
+
+-- what is asked of the calls' input
+abbrev pub AllFit : Setup → List Call → Type 0
+AllFit x [] = Unit {0}
+AllFit x (call ∷ calls) = Fit x (bytesIn call) × AllFit x calls
 
 module _ (x : Setup) (start : Start) where
   abbrev site : Site
@@ -44,34 +49,26 @@ module _ (x : Setup) (start : Start) where
   U = x .U
 
   abbrev r : Rules
-  r = rulesAt site
-
-  -- what is asked of a call's input
-  abbrev Fits : Call → Type 0
-  Fits call = Fit x start (bytesIn call)
-
-  abbrev pub AllFit : List Call → Type 0
-  AllFit [] = Unit {0}
-  AllFit (call ∷ calls) = Fits call × AllFit calls
+  r = site .rules
 
   -- ---- one call
   module _ (s : State) (h : List Event) (i : Run x start s h) where
-    stepped-passed : (time : ℕ) → Stepped x start (s .clock) h (passed (site .rules) (site .settings) time s .state) (passedAt time (passed (site .rules) (site .settings) time s .answer))
+    stepped-passed : (time : ℕ) → Stepped x start (s .clock) h (passed (site .rules) (site .limits) time s .state) (passedAt time (passed (site .rules) (site .limits) time s .answer))
     unfolding passed
-    stepped-passed time = go (timeRefusalAt (site .settings) time s) refl
+    stepped-passed time = go (timeRefusalAt (site .limits) time s) refl
       where
         after : After Reply
         after = record { answer = Done; state = timed x time s }
 
-        go : (n : ℕ) → timeRefusalAt (site .settings) time s ≡ n
+        go : (n : ℕ) → timeRefusalAt (site .limits) time s ≡ n
             → Stepped x start (s .clock) h (unlessRefused Refused n s after .state) (passedAt time (unlessRefused Refused n s after .answer))
         go zero e =
-            let l = time-in-order (site .settings) (length (s .tables .records)) (length (s .tables .tags)) (length (s .tables .counts)) (s .clock) time e in
+            let l = time-in-order (site .limits) (length (s .tables .records)) (length (s .tables .tags)) (length (s .tables .counts)) (s .clock) time e in
             stepped-quiet x start (run-onward x start time l i) (passedAt time Done) refl (clock-at x s time l)
         go (suc n) e = stepped-quiet x start i (passedAt time (Refused (suc n))) refl refl
 
     -- one clause for each sort
-    stepped : (call : Call) → Fits call → Stepped x start (s .clock) h (stateAfter site s call) (eventOf site s call)
+    stepped : (call : Call) → Fit x (bytesIn call) → Stepped x start (s .clock) h (stateAfter site s call) (eventOf site s call)
     unfolding stateAfter eventOf
     stepped (packetAt time bytes) fits = stepped-packet x start s h i time bytes fits
     stepped (timeAlone time) fits = stepped-passed time
@@ -85,24 +82,24 @@ module _ (x : Setup) (start : Start) where
   happened calls = history site start calls
 
   module _ (good : Good x start) where
-    pub run : (calls : List Call) → AllFit calls → Run x start (leaves calls) (happened calls)
+    pub run : (calls : List Call) → AllFit x calls → Run x start (leaves calls) (happened calls)
     unfolding left history
     run [] fit = run-start x start good
     run (call ∷ calls) fit = stepped (leaves calls) (happened calls) (run calls (fit .1)) call (fit .0) .run
 
     -- the last call of a run
-    last : (call : Call) (calls : List Call) → Fits call → AllFit calls
+    last : (call : Call) (calls : List Call) → Fit x (bytesIn call) → AllFit x calls
         → Stepped x start (leaves calls .clock) (happened calls) (stateAfter site (leaves calls) call) (eventOf site (leaves calls) call)
     last call calls fits fit = stepped (leaves calls) (happened calls) (run calls fit) call fits
 
-    clock-is : (calls : List Call) → AllFit calls → leaves calls .clock ≡ clockAfter (start .state .clock) (happened calls)
+    clock-is : (calls : List Call) → AllFit x calls → leaves calls .clock ≡ clockAfter (start .state .clock) (happened calls)
     unfolding left history
     clock-is [] fit = refl
     clock-is (call ∷ calls) fit =
         last call calls (fit .0) (fit .1) .time ∙ ap (orBefore (told (eventOf site (leaves calls) call) .clock)) (clock-is calls (fit .1))
 
     -- what was answered to each call, by what came before it
-    rightly-at : (calls : List Call) → AllFit calls → (newer older : List Event) (event : Event)
+    rightly-at : (calls : List Call) → AllFit x calls → (newer older : List Event) (event : Event)
         → happened calls ≡ newer ++ (event ∷ older) → Rightly x start older (told event .judged)
     unfolding left history
     rightly-at [] fit [] older event e = absurd (not-nil e)
@@ -113,7 +110,7 @@ module _ (x : Setup) (start : Start) where
     rightly-at (call ∷ calls) fit (y ∷ newer) older event e = rightly-at calls (fit .1) newer older event (same-tail e)
 
     -- verdict 4 is answered exactly to fresh contacts
-    pub four-is-fresh : (calls : List Call) → AllFit calls → (newer older : List Event) (time : ℕ) (bytes : List ℕ) (answered : Answer)
+    pub four-is-fresh : (calls : List Call) → AllFit x calls → (newer older : List Event) (time : ℕ) (bytes : List ℕ) (answered : Answer)
         → happened calls ≡ newer ++ (judgedAt time bytes answered ∷ older)
         → isFresh site start time (oursOf site bytes) (verdictTold answered) older ≡ tells 4 (verdictTold answered)
     four-is-fresh calls fit newer older time bytes answered e =
@@ -126,7 +123,7 @@ module _ (x : Setup) (start : Start) where
         go (some (suc n)) right = right .0
 
     -- so as many are answered 4 as are fresh
-    pub answered : (calls : List Call) → AllFit calls → (address : ℕ) → freshContacts site start address (happened calls) ≡ fours site address (happened calls)
+    pub answered : (calls : List Call) → AllFit x calls → (address : ℕ) → freshContacts site start address (happened calls) ≡ fours site address (happened calls)
     unfolding left history
     answered [] fit address = refl
     answered (call ∷ calls) fit address =
@@ -136,21 +133,21 @@ module _ (x : Setup) (start : Start) where
         one none right = refl
         one (some it) right = λ j. cond (eqb (cellAddress (packetIn site it)) address && right .0 j) (r .weight (packetIn site it .header)) 0
 
-    -- the bound of demand 3. Of a start that holds a count: "the first T becomes T less the smaller of T and the count held there", and for
-    -- a count below 0 it is T and as much as the count is below.
-    pub bound : (calls : List Call) → AllFit calls → (address : ℕ) → address < 2 ^ 32
+    -- The bound of demand 3, from any start: "the first T becomes T less the smaller of T and the count held there" (document 02, K6), which
+    -- for a count below 0 is T and as much again as it is below.
+    pub bound : (calls : List Call) → AllFit x calls → (address : ℕ) → address < 2 ^ 32
         → freshContacts site start address (happened calls) + min (up (start .count address)) U
         ≤ U + dn (start .count address) + decays site start (happened calls) * r .point
         + credits site address (happened calls) * r .point + U * replacements address (happened calls)
     bound calls fit address l =
         subst (λ (clock : ℕ). freshContacts site start address (happened calls) + min (up (start .count address)) U
-        ≤ U + dn (start .count address) + multiplesPassed (site .settings .dmiss) (start .state .clock) clock * r .point
+        ≤ U + dn (start .count address) + multiplesPassed (site .limits .dmiss) (start .state .clock) clock * r .point
         + credits site address (happened calls) * r .point + U * replacements address (happened calls))
         (clock-is calls fit) (holds-bound (run calls fit .books address l))
 
-    -- No packet is dropped as blocked before enough fresh contacts of its address were forwarded: "blocking needs T less that count, or T
-    -- where the count is negative".
-    pub not-before : (calls : List Call) → AllFit calls → (newer older : List Event) (time : ℕ) (bytes : List ℕ) (answered : Answer)
+    -- No packet is dropped as blocked before enough fresh contacts of its address were forwarded, from any start: "blocking needs T less
+    -- that count, or T where the count is negative".
+    pub not-before : (calls : List Call) → AllFit x calls → (newer older : List Event) (time : ℕ) (bytes : List ℕ) (answered : Answer)
         → happened calls ≡ newer ++ (judgedAt time bytes answered ∷ older) → verdictTold answered ≡ some 6 → Enough x start bytes older
     not-before calls fit newer older time bytes answered e six =
         subst (λ (verdict : Option ℕ). Rightly x start older (judgementBy time bytes verdict)) six

@@ -74,8 +74,8 @@ module _ (site : Site) (state : State) (time : ℕ) (packet : Ours) (verdict : O
   abbrev live : Bool
   live = liveFor site start packet time before
 
-  slot-is : (live ≡ true) ↔ Live (site .settings .dconn) time (forwardedOn site (slotFor site packet) before)
-  slot-is = live-is (site .settings .dconn) time (forwardedOn site (slotFor site packet) before)
+  slot-is : (live ≡ true) ↔ Live (site .limits .dconn) time (forwardedOn site (slotFor site packet) before)
+  slot-is = live-is (site .limits .dconn) time (forwardedOn site (slotFor site packet) before)
 
   pub fresh-is : (isFresh site start time packet verdict before ≡ true) ↔ Fresh site time packet verdict before
   fresh-is = (words, test-passes)

@@ -6,9 +6,8 @@ use mathlib.Core.List.{List, [], _∷_}
 use mathlib.Core.Option.{none}
 use Prim.Native.Nat.{ℕ, _%_}
 use lib.IntN.{pos}
-use lib.ListN.{replicate}
-use Rattle.laws.specs.Signed.{minus}
 use Rattle.settings.specs.declared.Settings.{Settings}
+use Rattle.settings.specs.Settings.{factorySettings, withThreshold}
 use Rattle.verdicts.specs.declared.Verdict.{Verdict}
 use Rattle.verdicts.specs.declared.Verdict.the-variants.{Uncounted, CreditOfOne, CreditOfTwo, FreshContact, Blocked}
 use Rattle.reasons.specs.declared.Explanation.the-variants as explanation
@@ -16,26 +15,30 @@ use Rattle.rulings.specs.declared.answers.Replacement.the-variants.{None, Addre
 use Rattle.rulings.specs.declared.answers.Answer.the-variants.{Refused, NotOurs, Judged}
 use Rattle.rulings.specs.Rules.{Rules}
 use Rattle.gateway.specs.declared.Reply.the-variants as reply
-use Rattle.gateway.specs.Calls.{stateOf}
+use Rattle.gateway.specs.Calls.{stateOf, coldPlacing}
 use Rattle.history.specs.Runs.{Site, Start, coldStart, Event, judgedAt, passedAt, explainedAt}
 use Rattle.history.specs.Fresh.{replacements, decays, credits, freshContacts}
 
-abbrev rules : Settings → Rules
-rules set =
+abbrev settings : Settings
+settings = withThreshold 10 factorySettings
+
+abbrev rules : Rules
+rules =
     record {
-      threshold = set .threshold;
-      floor = set .floor;
+      threshold = settings .limits .threshold;
+      floor = settings .limits .floor;
       point = 1;
       weight = λ h. 1;
       attempt = λ h count. none;
-      slot = λ keys h fromPlant records. cond fromPlant (h .source) (h .destination) % records;
+      slot = λ placing h fromPlant records. cond fromPlant (h .source) (h .destination) % records;
     }
 
 abbrev site : Site
 site =
     record {
       rules = rules;
-      settings = record { threshold = 10; floor = minus 20; dmiss = 60; dconn = 10; keys = replicate 8 0 };
+      limits = settings .limits;
+      placing = coldPlacing settings;
       cell = 10 ∷ 0 ∷ 0 ∷ 0 ∷ 8 ∷ [];
       plant = 192 ∷ 168 ∷ 0 ∷ 0 ∷ 16 ∷ [];
       records = 16;
@@ -43,7 +46,7 @@ site =
 
 -- of its state only the clock matters here
 abbrev start : Start
-start = coldStart (stateOf [] [] [] 100)
+start = coldStart (stateOf (coldPlacing settings) [] [] [] 100)
 
 -- a TCP packet with flags, from 10.0.0.machine to 192.168.0.stranger, and one back
 abbrev sent : ℕ → ℕ → ℕ → List ℕ

@@ -15,7 +15,7 @@ use Rattle.tables.specs.Clock.{multiplesPassed}
 use Rattle.verdicts.specs.Verdicts.{isClosing}
 use Rattle.rulings.specs.Rules.{cellOf}
 use Rattle.gateway.specs.Packets.{directionIn, isFromPlant}
-use Rattle.history.specs.Runs.{Site, rulesAt, keysAt, Start, Event}
+use Rattle.history.specs.Runs.{Site, Start, Event}
 use Rattle.history.specs.Told.{Judgement, told}
 
 -- ---- packets of ours, read from their bytes (a packet that is not ours is never asked about: only one that was judged is)
@@ -92,7 +92,7 @@ clockAfter start (event ∷ before) = orBefore (told event .clock) (clockAfter s
 
 module _ (site : Site) where
   abbrev pub slotFor : Ours → ℕ
-  slotFor packet = rulesAt site .slot (keysAt site) (packet .header) (packet .fromPlant) (site .records)
+  slotFor packet = site .rules .slot (site .placing) (packet .header) (packet .fromPlant) (site .records)
 
   -- the packet that was judged
   abbrev pub packetIn : Judgement → Ours
@@ -115,7 +115,7 @@ module _ (site : Site) where
   pub record Fresh (time : ℕ) (packet : Ours) (verdict : Option ℕ) (before : List Event) : Type 0 where
     pub forwarded : forwards verdict ≡ true
     pub cell-packet : packet .fromPlant ≡ false
-    pub slot-not-live : Live (site .settings .dconn) time (forwardedOn (slotFor packet) before) → ⊥
+    pub slot-not-live : Live (site .limits .dconn) time (forwardedOn (slotFor packet) before) → ⊥
 
   -- H, for an address
   abbrev pub creditBy : ℕ → Option Judgement → ℕ
@@ -127,14 +127,14 @@ module _ (site : Site) where
   credits address (event ∷ before) = credits address before + creditBy address (told event .judged)
 
   module _ (start : Start) where
-    -- D: "the multiples of Dmiss passed since the cold start", or whatever start
+    -- D: "the multiples of Dmiss passed since the cold start", which is where the run begins
     abbrev pub decays : List Event → ℕ
-    decays history = multiplesPassed (site .settings .dmiss) (start .state .clock) (clockAfter (start .state .clock) history)
+    decays history = multiplesPassed (site .limits .dmiss) (start .state .clock) (clockAfter (start .state .clock) history)
 
     -- whether the packet's slot is live at a moment, by what came before
     abbrev pub liveFor : Ours → ℕ → List Event → Bool
     liveFor packet now before =
-        isLive (start .held (slotFor packet)) (site .settings .dconn) now (forwardedOn (slotFor packet) before)
+        isLive (start .held (slotFor packet)) (site .limits .dconn) now (forwardedOn (slotFor packet) before)
 
     -- whether a contact is fresh, as a test that computes (`fresh-is`, history/proofs/Live, says that after a cold start it is those words)
     abbrev pub isFresh : ℕ → Ours → Option ℕ → List Event → Bool
@@ -145,7 +145,7 @@ module _ (site : Site) where
     freshBy address none before = 0
     freshBy address (some it) before =
         cond (eqb (cellAddress (packetIn it)) address && isFresh (it .time) (packetIn it) (some (it .verdict)) before)
-        (rulesAt site .weight (packetIn it .header))
+        (site .rules .weight (packetIn it .header))
         0
 
     abbrev pub freshContacts : ℕ → List Event → ℕ

@@ -5,7 +5,8 @@ use mathlib.Core.Bool.{Bool, false}
 use mathlib.Core.List.{List, [], _∷_}
 use Prim.Native.Nat.{ℕ}
 use lib.IntN.{ℤ, pos}
-use Rattle.settings.specs.declared.Settings.{Settings}
+use Rattle.settings.specs.declared.Limits.{Limits}
+use Rattle.places.specs.declared.Placing.{Placing}
 use Rattle.reasons.specs.declared.Explanation.{Explanation}
 use Rattle.rulings.specs.declared.answers.Answer.{Answer}
 use Rattle.rulings.specs.Rules.{Rules}
@@ -13,30 +14,24 @@ use Rattle.gateway.specs.declared.Reply.{Reply}
 use Rattle.gateway.specs.Calls.{State, passed, judged}
 use Rattle.gateway.specs.Why.{whyOf}
 
--- "with settings, side lists and sizes unchanged": what stays in a run. Of the sizes, what is fresh depends on the number of connection
--- records.
+-- "with settings, side lists and sizes unchanged": what stays in a run. Of the settings these are the limits, the rules by them, and what
+-- places packets, and of the sizes the number of connection records.
 pub record Site : Type 0 where
-  pub rules : Settings → Rules
-  pub settings : Settings
+  pub rules : Rules
+  pub limits : Limits
+  pub placing : Placing
   pub cell : List ℕ
   pub plant : List ℕ
   pub records : ℕ
 
--- its rules by its settings, and its round keys
-abbrev pub rulesAt : Site → Rules
-rulesAt site = site .rules (site .settings)
-
-abbrev pub keysAt : Site → List ℕ
-keysAt site = site .settings .keys
-
--- Where a run begins: a state, and what is held there. That is whether a slot is live at a moment, if nothing was forwarded on it since, and
--- each address's count.
+-- Where a run begins: a state, and what is held there. That is whether a slot is live at a moment while nothing was forwarded on it since,
+-- and each address's count.
 pub record Start : Type 0 where
   pub state : State
   pub held : ℕ → ℕ → Bool
   pub count : ℕ → ℤ
 
--- after a cold start no slot is live, and every count is 0
+-- A cold start "writes 0 to every record and tag and -32,768 to every count": no slot is live then, and every address's count is 0.
 abbrev pub coldStart : State → Start
 coldStart state = record { state = state; held = λ slot now. false; count = λ address. pos 0 }
 
@@ -63,14 +58,14 @@ module _ (site : Site) where
   -- one call: the very definitions that the contracts of `judge`, `pass` and `why` cite. `why` is lent everything for reading alone: it
   -- leaves the state as it was.
   unfoldable pub stateAfter : State → Call → State
-  stateAfter before (packetAt time bytes) = judged (site .rules) (site .settings) (site .cell) (site .plant) time bytes before .state
-  stateAfter before (timeAlone time) = passed (site .rules) (site .settings) time before .state
+  stateAfter before (packetAt time bytes) = judged (site .rules) (site .limits) (site .cell) (site .plant) time bytes before .state
+  stateAfter before (timeAlone time) = passed (site .rules) (site .limits) time before .state
   stateAfter before (whyAt time bytes) = before
 
   unfoldable pub eventOf : State → Call → Event
-  eventOf before (packetAt time bytes) = judgedAt time bytes (judged (site .rules) (site .settings) (site .cell) (site .plant) time bytes before .answer)
-  eventOf before (timeAlone time) = passedAt time (passed (site .rules) (site .settings) time before .answer)
-  eventOf before (whyAt time bytes) = explainedAt time bytes (whyOf (site .rules) (site .settings) (site .cell) (site .plant) time bytes before)
+  eventOf before (packetAt time bytes) = judgedAt time bytes (judged (site .rules) (site .limits) (site .cell) (site .plant) time bytes before .answer)
+  eventOf before (timeAlone time) = passedAt time (passed (site .rules) (site .limits) time before .answer)
+  eventOf before (whyAt time bytes) = explainedAt time bytes (whyOf (site .rules) (site .limits) (site .cell) (site .plant) time bytes before)
 
   module _ (start : Start) where
     -- the state that calls leave, and their history

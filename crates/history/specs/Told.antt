@@ -1,5 +1,5 @@
--- What an event tells, by document 01's numbers. An event is read here, once, and what a history says is made of what its events tell: so a
--- new sort of call is one line of `told`.
+-- What an event tells, by document 01's numbers. Events are read here alone: what a history says is made of what its events tell, and never
+-- asks of what sort they are.
 -- Assumes nothing.
 use mathlib.Core.List.{List, [], _∷_}
 use mathlib.Core.Option.{Option, none, some}
@@ -14,7 +14,8 @@ pub record Judgement : Type 0 where
   pub bytes : List ℕ
   pub verdict : ℕ
 
--- the time that the clock was set to, if any; the packet of ours that was judged, if any; and the addresses named as replaced
+-- the time that the clock was set to, if any; the packet of ours that was judged, if any; and the addresses named as replaced, whose
+-- entries were lost
 pub record Told : Type 0 where
   pub clock : Option ℕ
   pub judged : Option Judgement

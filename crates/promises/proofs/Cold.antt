@@ -12,8 +12,8 @@ use lib.Pow.{pow-pos}
 use Rattle.laws.specs.Signed.{minus}
 use Rattle.laws.proofs.Signed.{le-in, one-part}
 use Rattle.laws.proofs.Tests.{true-is-not-false}
-use Rattle.settings.specs.declared.Settings.{Settings}
-use Rattle.settings.specs.Settings.{badSettings}
+use Rattle.settings.specs.declared.Limits.{Limits}
+use Rattle.settings.specs.Settings.{badLimits}
 use Rattle.settings.proofs.Ranges.{InRange, in-range}
 use Rattle.permute.proofs.Inverse.{Keys}
 use Rattle.places.proofs.Places.{slot-lt}
@@ -25,7 +25,7 @@ use Rattle.entries.proofs.Once.{once-cold, count-cold}
 use Rattle.tables.specs.Sizes.{badSizes}
 use Rattle.tables.specs.Clock.{multiplesPassed}
 use Rattle.tables.proofs.Powers.{Sized, sized}
-use Rattle.rulings.specs.Rules.{cellOf, document01}
+use Rattle.rulings.specs.Rules.{cellOf, rulesOf}
 use Rattle.cold.specs.Cold.{coldTables}
 use Rattle.refusals.proofs.Tests.{good-start}
 use Rattle.gateway.specs.declared.Reply.the-variants.{Refused, Done}
@@ -56,14 +56,14 @@ address-fits true bytes e =
 address-fits false bytes e =
     omega (arith, at-below 256 (omega arith) bytes 12 e, at-below 256 (omega arith) bytes 13 e, at-below 256 (omega arith) bytes 14 e, at-below 256 (omega arith) bytes 15 e)
 
--- ---- document 01's rules are lawful for settings in range
-pub document01-lawful : (settings : Settings) → InRange settings → Lawful (document01 settings) 1 (settings .threshold)
-document01-lawful settings r =
+-- ---- a gateway's rules are lawful for limits in range
+pub rules-lawful : (limits : Limits) → InRange limits → Lawful (rulesOf limits) 1 (limits .threshold)
+rules-lawful limits r =
     let t = le-in (r .threshold .low) in
     let top = le-in (r .threshold .high) in
     let f = le-in (r .floor .high) in
     let bottom = le-in (r .floor .low) in
-    let one = one-part (settings .floor) in
+    let one = one-part (limits .floor) in
     record {
       block-pos = omega arith;
       room = omega arith;
@@ -73,17 +73,17 @@ document01-lawful settings r =
       floor-low = omega arith;
       floor-near = omega arith;
       attempt-up = λ h c d e. absurd (not-some e);
-      slot-lt = λ keys h fromPlant records p. slot-lt keys _ _ _ records p;
+      slot-lt = λ placing h fromPlant records p. slot-lt (placing .keys) _ _ _ records p;
     }
 
 module _ (g : Gateway) (cold : StartsCold g) where
-  -- the cold start is not refused, so settings and sizes are good
-  good : (badSettings (g .settings) ≡ false)
+  -- the cold start is not refused, so limits and sizes are good
+  good : (badLimits (g .settings .limits) ≡ false)
       × (badSizes (length (g .lent .tables .records)) (length (g .lent .tables .tags)) (length (g .lent .tables .counts)) ≡ false)
-  good = good-start (g .settings) _ _ _ (cold .not-refused)
+  good = good-start (g .settings .limits) _ _ _ (cold .not-refused)
 
-  pub range : InRange (g .settings)
-  range = in-range (g .settings) (good .0)
+  pub range : InRange (g .settings .limits)
+  range = in-range (g .settings .limits) (good .0)
 
   pub sizes : Sized (length (g .lent .tables .records)) (length (g .lent .tables .tags)) (length (g .lent .tables .counts))
   sizes = sized _ _ _ (good .1)
@@ -94,8 +94,8 @@ module _ (g : Gateway) (cold : StartsCold g) where
       record {
         site = site g;
         W = 1;
-        U = g .settings .threshold;
-        ok = document01-lawful (g .settings) range;
+        U = g .settings .limits .threshold;
+        ok = rules-lawful (g .settings .limits) range;
         k = keys-fit (g .settings .keys) (cold .keys-are-words);
         narrow = omega (arith, le-in (range .dconn .high));
         some-records = subst (λ (n : ℕ). 0 < n) (sym (sizes .record-count .is)) (pow-pos (sizes .record-count .exponent));
@@ -103,7 +103,7 @@ module _ (g : Gateway) (cold : StartsCold g) where
 
   -- that starts in this state
   abbrev cold-state : State
-  cold-state = coldState (g .start) (g .lent)
+  cold-state = coldState (g .settings) (g .start) (g .lent)
 
   first-is : first g ≡ coldStart cold-state
   unfolding started
@@ -124,6 +124,10 @@ module _ (g : Gateway) (cold : StartsCold g) where
   unfolding coldTables isEmpty
   no-count address = count-cold (cold-state .tables .tags) (length (g .lent .tables .counts)) (minus 32768) refl _ _
 
+  placing-is : cold-state .placing ≡ setup .site .placing
+  unfolding setup
+  placing-is = refl
+
   sound : Sound setup cold-state
   unfolding setup coldTables isEmpty
   sound =
@@ -142,6 +146,7 @@ module _ (g : Gateway) (cold : StartsCold g) where
   good-first =
       subst (Good setup) (sym first-is)
       (record {
+        placing-same = placing-is;
         sound = sound;
         young = λ slot e. true-is-not-false (cold-record slot) e;
         held-so = nothing-held;
@@ -149,12 +154,12 @@ module _ (g : Gateway) (cold : StartsCold g) where
         full = λ address l. omega arith;
       })
     where
-      nothing-held : (slot now : ℕ) → false ≡ heldBy (setup .site .settings .dconn) (g .start) (getD (cold-state .tables .records) slot 0) now
+      nothing-held : (slot now : ℕ) → false ≡ heldBy (setup .site .limits .dconn) (g .start) (getD (cold-state .tables .records) slot 0) now
       nothing-held slot now =
-          let young = leb (ageOf (getD (cold-state .tables .records) slot 0) + multiplesPassed 60 (g .start) now) (setup .site .settings .dconn) in
+          let young = leb (ageOf (getD (cold-state .tables .records) slot 0) + multiplesPassed 60 (g .start) now) (setup .site .limits .dconn) in
           sym (ap (λ (t : Bool). young && not t) (cold-record slot) ∙ and-false young)
 
-  pub all-fit : (calls : List Call) → OfBytes calls → AllFit setup (first g) calls
+  pub all-fit : (calls : List Call) → OfBytes calls → AllFit setup calls
   unfolding setup
   all-fit [] e = tt
   all-fit (call ∷ calls) e = (address-fits (oursOf (site g) (bytesIn call) .fromPlant) (bytesIn call) (e .0), all-fit calls (e .1))

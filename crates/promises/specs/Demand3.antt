@@ -11,8 +11,8 @@ use lib.ListN.{length}
 use Rattle.settings.specs.declared.Settings.{Settings}
 use Rattle.rulings.specs.declared.answers.Answer.{Answer}
 use Rattle.rulings.specs.Answers.{verdictTold}
-use Rattle.rulings.specs.Rules.{document01}
-use Rattle.gateway.specs.Calls.{State, startRefusalAt, started}
+use Rattle.rulings.specs.Rules.{rulesOf}
+use Rattle.gateway.specs.Calls.{State, startRefusalAt, coldPlacing, started}
 use Rattle.history.specs.Runs.{Site, Start, coldStart, Call, bytesIn, Event, judgedAt, history}
 use Rattle.history.specs.Fresh.{oursOf, cellAddress, freshContacts, decays, credits, replacements}
 
@@ -32,7 +32,7 @@ EachBelow limit (x ∷ xs) = (x < limit) × EachBelow limit xs
 
 -- the cold start is not refused. That keys are 32-bit words, and packets made of bytes, is what the types of the code's arguments say.
 pub record StartsCold (g : Gateway) : Type 0 where
-  pub not-refused : startRefusalAt (g .settings) (g .lent) ≡ 0
+  pub not-refused : startRefusalAt (g .settings .limits) (g .lent) ≡ 0
   pub keys-are-words : EachBelow (2 ^ 32) (g .settings .keys)
 
 abbrev pub OfBytes : List Call → Type 0
@@ -43,7 +43,15 @@ OfBytes (call ∷ calls) = EachBelow 256 (bytesIn call) × OfBytes calls
 module _ (g : Gateway) where
   -- "with settings, side lists and sizes unchanged"
   abbrev pub site : Site
-  site = record { rules = document01; settings = g .settings; cell = g .cell; plant = g .plant; records = length (g .lent .tables .records) }
+  site =
+      record {
+        rules = rulesOf (g .settings .limits);
+        limits = g .settings .limits;
+        placing = coldPlacing (g .settings);
+        cell = g .cell;
+        plant = g .plant;
+        records = length (g .lent .tables .records);
+      }
 
   -- "From its one cold start": the state that it leaves
   abbrev pub first : Start
@@ -68,7 +76,7 @@ module _ (g : Gateway) where
 
   -- T
   abbrev pub threshold : ℕ
-  threshold = g .settings .threshold
+  threshold = g .settings .limits .threshold
 
   -- "T + D + H + T × R", and "at least T"
   abbrev pub most : ℕ → List Event → ℕ

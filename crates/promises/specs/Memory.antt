@@ -31,7 +31,7 @@ module _ (g : Gateway) where
 
   pub record Memory (calls : List Call) : Type 0 where
     pub marked-exactly-if-live : (slot : ℕ) → slot < site g .records
-        → (isCold (recordAt calls slot) ≡ false) ↔ Live (g .settings .dconn) (stateAfterAll calls .clock) (forwardedAt calls slot)
+        → (isCold (recordAt calls slot) ≡ false) ↔ Live (g .settings .limits .dconn) (stateAfterAll calls .clock) (forwardedAt calls slot)
     pub age-is : (slot : ℕ) → slot < site g .records → isCold (recordAt calls slot) ≡ false
         → (last : Forwarded) (earlier : List Forwarded) → forwardedAt calls slot ≡ last ∷ earlier
         → ageOf (recordAt calls slot) ≡ multiplesPassed 60 (last .time) (stateAfterAll calls .clock)

@@ -10,22 +10,22 @@ use lib.IntN.{pos}
 use lib.ListN.{getD}
 use Rattle.laws.specs.Times.{times, howMany}
 use Rattle.laws.proofs.Signed.{dn}
-use Rattle.settings.specs.Settings.{badSettings}
+use Rattle.settings.specs.Settings.{badLimits}
 use Rattle.records.specs.Records.{minutePassed, agedBy}
 use Rattle.tables.specs.Sizes.{badSizes}
 use Rattle.tables.specs.Tables.{Tables}
 use Rattle.tables.specs.Clock.{multiplesPassed, timePassed}
 use Rattle.rulings.specs.declared.answers.Answer.{Answer}
 use Rattle.rulings.specs.Answers.{refusalTold, verdictTold}
-use Rattle.rulings.specs.Rules.{document01}
+use Rattle.rulings.specs.Rules.{rulesOf}
 use Rattle.refusals.specs.Refusals.{timeRefusal}
 use Rattle.counts.specs.Counts.{decayedBy}
 use Rattle.gateway.specs.declared.Reply.{Reply}
-use Rattle.gateway.specs.Calls.{State, After, passed, judged}
+use Rattle.gateway.specs.Calls.{State, After, passed}
 use Rattle.books.proofs.Apart.{same-head, same-tail}
 use Rattle.witnesses.specs.Tight.{gateway, syn, synAckBack}
 use Rattle.witnesses.specs.MustNotPass.{AnyGateway, MeetsContracts, MustNotPass}
-use Rattle.witnesses.proofs.Tight.{stateBefore, openingRows, opening-made, cold, cold-is}
+use Rattle.witnesses.proofs.Tight.{stateBefore, judgedHere, openingRows, opening-made, cold, cold-is}
 
 -- a number that tells verdicts apart
 abbrev numberIn : Option ℕ → ℕ
@@ -44,7 +44,7 @@ below tables = dn (getD (tables .counts) 0 (pos 0))
 
 -- ---- what the definitions make of them
 abbrev judgedAt100 : List ℕ → State → After Answer
-judgedAt100 bytes before = judged document01 (gateway .settings) (gateway .cell) (gateway .plant) 100 bytes before
+judgedAt100 bytes before = judgedHere 100 bytes before
 
 abbrev first : After Answer
 first = judgedAt100 (syn 1 6379) cold
@@ -66,57 +66,57 @@ answer =
 abbrev marked : State
 marked = stateBefore openingRows
 
-older : slot8 (passed document01 (gateway .settings) 120 marked .state .tables) ≡ 193
-unfolding times howMany badSettings badSizes minutePassed agedBy multiplesPassed timePassed decayedBy timeRefusal passed
+older : slot8 (passed (rulesOf (gateway .settings .limits)) (gateway .settings .limits) 120 marked .state .tables) ≡ 193
+unfolding times howMany badLimits badSizes minutePassed agedBy multiplesPassed timePassed decayedBy timeRefusal passed
 older = refl
 
 -- ---- so none of the four
 module _ (g : AnyGateway) (m : MeetsContracts g) where
   abbrev judgedBy : List ℕ → State → After Answer
-  judgedBy bytes before = g .judge (gateway .settings) (gateway .cell) (gateway .plant) 100 bytes before
+  judgedBy bytes before = g .judge (gateway .settings .limits) (gateway .cell) (gateway .plant) 100 bytes before
 
   by-contract : (bytes : List ℕ) (before : State) → judgedBy bytes before ≡ judgedAt100 bytes before
-  by-contract bytes before = m .of-judge (gateway .settings) (gateway .cell) (gateway .plant) 100 bytes before
+  by-contract bytes before = m .of-judge (gateway .settings .limits) (gateway .cell) (gateway .plant) 100 bytes before
 
-  started-cold : g .start (gateway .settings) 100 (gateway .lent) .state ≡ cold
-  started-cold = ap (λ (a : After Reply). a .state) (m .of-start (gateway .settings) 100 (gateway .lent)) ∙ cold-is
+  started-cold : g .start (gateway .settings) 100 (gateway .lent .tables) (gateway .lent .clock) .state ≡ cold
+  started-cold = ap (λ (a : After Reply). a .state) (m .of-start (gateway .settings) 100 (gateway .lent .tables) (gateway .lent .clock)) ∙ cold-is
 
   pub must-not-pass : MustNotPass g
   must-not-pass =
       record {
         not-always-refused = λ always. absurd (omega (
           arith,
-          always (gateway .settings) (gateway .cell) (gateway .plant) 100 (syn 1 6379) cold,
+          always (gateway .settings .limits) (gateway .cell) (gateway .plant) 100 (syn 1 6379) cold,
           ap (λ (a : After Answer). refusalTold (a .answer)) (by-contract (syn 1 6379) cold),
           contact .0,
         ));
         not-one-to-all = λ one. absurd (omega (
           arith,
-          ap numberIn (one (gateway .settings) (gateway .cell) (gateway .plant) 100 (syn 1 6379) cold),
+          ap numberIn (one (gateway .settings .limits) (gateway .cell) (gateway .plant) 100 (syn 1 6379) cold),
           ap verdict (by-contract (syn 1 6379) cold),
           contact .1,
         ));
         tables-by-packets = λ none. absurd (omega (
           arith,
-          ap slot8 (none (gateway .settings) (gateway .cell) (gateway .plant) 100 (syn 1 6379) cold),
+          ap slot8 (none (gateway .settings .limits) (gateway .cell) (gateway .plant) 100 (syn 1 6379) cold),
           ap (λ (a : After Answer). slot8 (a .state .tables)) (by-contract (syn 1 6379) cold),
           contact .2,
         ));
         tables-by-time = λ none. absurd (omega (
           arith,
-          ap slot8 (none (gateway .settings) 120 marked),
-          ap (λ (a : After Reply). slot8 (a .state .tables)) (m .of-pass (gateway .settings) 120 marked),
+          ap slot8 (none (gateway .settings .limits) 120 marked),
+          ap (λ (a : After Reply). slot8 (a .state .tables)) (m .of-pass (gateway .settings .limits) 120 marked),
           older,
         ));
         tables-by-starts = λ none. absurd (omega (
           arith,
-          ap below (none (gateway .settings) 100 (gateway .lent)),
+          ap below (none (gateway .settings) 100 (gateway .lent .tables) (gateway .lent .clock)),
           ap (λ (s : State). below (s .tables)) started-cold,
         ));
         not-repeated = λ repeats. absurd (omega (
           arith,
           ap (λ (a : Answer). numberIn (verdictTold a))
-              (repeats (gateway .settings) (gateway .cell) (gateway .plant) (gateway .lent) 100 100 100 (syn 1 6379) (synAckBack 1 6379)),
+              (repeats (gateway .settings) (gateway .cell) (gateway .plant) (gateway .lent .tables) (gateway .lent .clock) 100 100 100 (syn 1 6379) (synAckBack 1 6379)),
           ap (λ (s : State). verdict (judgedBy (syn 1 6379) s)) started-cold,
           ap verdict (by-contract (syn 1 6379) cold),
           contact .1,

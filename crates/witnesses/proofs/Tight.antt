@@ -15,7 +15,7 @@ use Rattle.laws.specs.Signed.{minus}
 use Rattle.laws.specs.Search.{every, firstBelow, foremost}
 use Rattle.laws.specs.Times.{times, howMany, timesIn}
 use Rattle.laws.proofs.Tests.{and-left, and-right}
-use Rattle.settings.specs.Settings.{badSettings}
+use Rattle.settings.specs.Settings.{badLimits}
 use Rattle.permute.specs.Permutation.{inverses, nibbles, unround, unrounds}
 use Rattle.permute.specs.Permutation as permutation
 use Rattle.places.specs.Places.{slotOf, placeOf, addressOf}
@@ -34,12 +34,12 @@ use Rattle.rulings.specs.declared.answers.Replacement.{Replacement}
 use Rattle.rulings.specs.declared.answers.Replacement.the-variants.{None, Address}
 use Rattle.rulings.specs.declared.answers.Answer.{Answer}
 use Rattle.rulings.specs.declared.answers.Answer.the-variants.{Judged}
-use Rattle.rulings.specs.Rules.{document01}
+use Rattle.rulings.specs.Rules.{rulesOf}
 use Rattle.rulings.specs.Rulings.{countWritten, rulingOf}
 use Rattle.cold.specs.Cold.{coldTables}
 use Rattle.refusals.specs.Refusals.{startRefusal, earlyRefusal}
 use Rattle.gateway.specs.Packets.{ours, byDirection}
-use Rattle.gateway.specs.Calls.{State, stateOf, After, started, judged}
+use Rattle.gateway.specs.Calls.{State, stateOf, After, coldPlacing, started, judged}
 use Rattle.history.specs.Runs.{coldStart, Call, packetAt, whyAt, Event, judgedAt, stateAfter, eventOf, left, history}
 use Rattle.books.proofs.Apart.{same-head, same-tail}
 use Rattle.books.proofs.Runs.{fours}
@@ -66,16 +66,22 @@ abbrev row : ℕ → List ℕ → Verdict → ℤ → Replacement → State → 
 row time bytes verdict count replaced state =
     record { time = time; bytes = bytes; verdict = verdict; count = count; replaced = replaced; state = state }
 
+abbrev stateAt : List ℕ → List ℕ → List ℤ → ℕ → State
+stateAt = stateOf (coldPlacing (gateway .settings))
+
 -- the state before a row is the one that the row before it left
 abbrev pub stateBefore : List Row → State
-stateBefore [] = stateOf (replicate 16 0) (replicate 4 0) (replicate 4 (minus 32768)) 100
+stateBefore [] = stateAt (replicate 16 0) (replicate 4 0) (replicate 4 (minus 32768)) 100
 stateBefore (row ∷ rows) = row .state
 
 -- what the gateway makes of each, and what is said of it
+abbrev pub judgedHere : ℕ → List ℕ → State → After Answer
+judgedHere = judged (rulesOf (gateway .settings .limits)) (gateway .settings .limits) (gateway .cell) (gateway .plant)
+
 abbrev pub made : List Row → List (After Answer)
 made [] = []
 made (row ∷ rows) =
-    judged document01 (gateway .settings) (gateway .cell) (gateway .plant) (row .time) (row .bytes) (stateBefore rows) ∷ made rows
+    judgedHere (row .time) (row .bytes) (stateBefore rows) ∷ made rows
 
 abbrev pub said : List Row → List (After Answer)
 said [] = []
@@ -91,47 +97,47 @@ eventsOf rows = map (λ row. judgedAt (row .time) (row .bytes) (Judged (row .ver
 -- the first two packets: a contact, and its answer
 abbrev pub openingRows : List Row
 openingRows =
-    row 100 (synAckBack 1 6379) CreditOfTwo (minus 1) None (stateOf (0 ∷ 0 ∷ 0 ∷ 0 ∷ 0 ∷ 0 ∷ 0 ∷ 0 ∷ 192 ∷ 0 ∷ 0 ∷ 0 ∷ 0 ∷ 0 ∷ 0 ∷ 0 ∷ []) (0xFCE676E6 ∷ 0 ∷ 0 ∷ 0 ∷ []) (minus 1 ∷ minus 32768 ∷ minus 32768 ∷ minus 32768 ∷ []) 100) ∷
-    row 100 (syn 1 6379) FreshContact (pos 1) None (stateOf (0 ∷ 0 ∷ 0 ∷ 0 ∷ 0 ∷ 0 ∷ 0 ∷ 0 ∷ 64 ∷ 0 ∷ 0 ∷ 0 ∷ 0 ∷ 0 ∷ 0 ∷ 0 ∷ []) (0xFCE676E6 ∷ 0 ∷ 0 ∷ 0 ∷ []) (pos 1 ∷ minus 32768 ∷ minus 32768 ∷ minus 32768 ∷ []) 100) ∷ []
+    row 100 (synAckBack 1 6379) CreditOfTwo (minus 1) None (stateAt (0 ∷ 0 ∷ 0 ∷ 0 ∷ 0 ∷ 0 ∷ 0 ∷ 0 ∷ 192 ∷ 0 ∷ 0 ∷ 0 ∷ 0 ∷ 0 ∷ 0 ∷ 0 ∷ []) (0xFCE676E6 ∷ 0 ∷ 0 ∷ 0 ∷ []) (minus 1 ∷ minus 32768 ∷ minus 32768 ∷ minus 32768 ∷ []) 100) ∷
+    row 100 (syn 1 6379) FreshContact (pos 1) None (stateAt (0 ∷ 0 ∷ 0 ∷ 0 ∷ 0 ∷ 0 ∷ 0 ∷ 0 ∷ 64 ∷ 0 ∷ 0 ∷ 0 ∷ 0 ∷ 0 ∷ 0 ∷ 0 ∷ []) (0xFCE676E6 ∷ 0 ∷ 0 ∷ 0 ∷ []) (pos 1 ∷ minus 32768 ∷ minus 32768 ∷ minus 32768 ∷ []) 100) ∷ []
 
 -- all that is allowed, up to where others come in, and from there on
 abbrev firstRows : List Row
 firstRows =
-    row 120 (syn 1 5432) FreshContact (pos 2) None (stateOf (65 ∷ 0 ∷ 65 ∷ 0 ∷ 65 ∷ 0 ∷ 0 ∷ 0 ∷ 193 ∷ 64 ∷ 0 ∷ 0 ∷ 0 ∷ 0 ∷ 0 ∷ 0 ∷ []) (0xFCE676E6 ∷ 0 ∷ 0 ∷ 0 ∷ []) (pos 2 ∷ minus 32768 ∷ minus 32768 ∷ minus 32768 ∷ []) 120) ∷
-    row 100 (syn 1 80) FreshContact (pos 2) None (stateOf (64 ∷ 0 ∷ 64 ∷ 0 ∷ 64 ∷ 0 ∷ 0 ∷ 0 ∷ 192 ∷ 0 ∷ 0 ∷ 0 ∷ 0 ∷ 0 ∷ 0 ∷ 0 ∷ []) (0xFCE676E6 ∷ 0 ∷ 0 ∷ 0 ∷ []) (pos 2 ∷ minus 32768 ∷ minus 32768 ∷ minus 32768 ∷ []) 100) ∷
-    row 100 (syn 1 11211) FreshContact (pos 1) None (stateOf (0 ∷ 0 ∷ 64 ∷ 0 ∷ 64 ∷ 0 ∷ 0 ∷ 0 ∷ 192 ∷ 0 ∷ 0 ∷ 0 ∷ 0 ∷ 0 ∷ 0 ∷ 0 ∷ []) (0xFCE676E6 ∷ 0 ∷ 0 ∷ 0 ∷ []) (pos 1 ∷ minus 32768 ∷ minus 32768 ∷ minus 32768 ∷ []) 100) ∷
-    row 100 (syn 1 4840) FreshContact (pos 0) None (stateOf (0 ∷ 0 ∷ 64 ∷ 0 ∷ 0 ∷ 0 ∷ 0 ∷ 0 ∷ 192 ∷ 0 ∷ 0 ∷ 0 ∷ 0 ∷ 0 ∷ 0 ∷ 0 ∷ []) (0xFCE676E6 ∷ 0 ∷ 0 ∷ 0 ∷ []) (pos 0 ∷ minus 32768 ∷ minus 32768 ∷ minus 32768 ∷ []) 100) ∷ openingRows
+    row 120 (syn 1 5432) FreshContact (pos 2) None (stateAt (65 ∷ 0 ∷ 65 ∷ 0 ∷ 65 ∷ 0 ∷ 0 ∷ 0 ∷ 193 ∷ 64 ∷ 0 ∷ 0 ∷ 0 ∷ 0 ∷ 0 ∷ 0 ∷ []) (0xFCE676E6 ∷ 0 ∷ 0 ∷ 0 ∷ []) (pos 2 ∷ minus 32768 ∷ minus 32768 ∷ minus 32768 ∷ []) 120) ∷
+    row 100 (syn 1 80) FreshContact (pos 2) None (stateAt (64 ∷ 0 ∷ 64 ∷ 0 ∷ 64 ∷ 0 ∷ 0 ∷ 0 ∷ 192 ∷ 0 ∷ 0 ∷ 0 ∷ 0 ∷ 0 ∷ 0 ∷ 0 ∷ []) (0xFCE676E6 ∷ 0 ∷ 0 ∷ 0 ∷ []) (pos 2 ∷ minus 32768 ∷ minus 32768 ∷ minus 32768 ∷ []) 100) ∷
+    row 100 (syn 1 11211) FreshContact (pos 1) None (stateAt (0 ∷ 0 ∷ 64 ∷ 0 ∷ 64 ∷ 0 ∷ 0 ∷ 0 ∷ 192 ∷ 0 ∷ 0 ∷ 0 ∷ 0 ∷ 0 ∷ 0 ∷ 0 ∷ []) (0xFCE676E6 ∷ 0 ∷ 0 ∷ 0 ∷ []) (pos 1 ∷ minus 32768 ∷ minus 32768 ∷ minus 32768 ∷ []) 100) ∷
+    row 100 (syn 1 4840) FreshContact (pos 0) None (stateAt (0 ∷ 0 ∷ 64 ∷ 0 ∷ 0 ∷ 0 ∷ 0 ∷ 0 ∷ 192 ∷ 0 ∷ 0 ∷ 0 ∷ 0 ∷ 0 ∷ 0 ∷ 0 ∷ []) (0xFCE676E6 ∷ 0 ∷ 0 ∷ 0 ∷ []) (pos 0 ∷ minus 32768 ∷ minus 32768 ∷ minus 32768 ∷ []) 100) ∷ openingRows
 
 abbrev allRows : List Row
 allRows =
-    row 120 (syn 1 2049) Blocked (pos 2) None (stateOf (65 ∷ 64 ∷ 65 ∷ 64 ∷ 65 ∷ 64 ∷ 64 ∷ 64 ∷ 193 ∷ 64 ∷ 0 ∷ 64 ∷ 0 ∷ 64 ∷ 64 ∷ 64 ∷ []) (0xFCE676E6 ∷ 0x732FCEE7 ∷ 0xF90E4EE6 ∷ 0x83294EE6 ∷ []) (pos 2 ∷ pos 2 ∷ pos 2 ∷ pos 2 ∷ []) 120) ∷
-    row 120 (syn 1 2049) FreshContact (pos 2) None (stateOf (65 ∷ 64 ∷ 65 ∷ 64 ∷ 65 ∷ 64 ∷ 64 ∷ 64 ∷ 193 ∷ 64 ∷ 0 ∷ 64 ∷ 0 ∷ 64 ∷ 64 ∷ 64 ∷ []) (0xFCE676E6 ∷ 0x732FCEE7 ∷ 0xF90E4EE6 ∷ 0x83294EE6 ∷ []) (pos 2 ∷ pos 2 ∷ pos 2 ∷ pos 2 ∷ []) 120) ∷
-    row 120 (syn 1 27017) FreshContact (pos 1) (Address 0x0A000005) (stateOf (65 ∷ 0 ∷ 65 ∷ 64 ∷ 65 ∷ 64 ∷ 64 ∷ 64 ∷ 193 ∷ 64 ∷ 0 ∷ 64 ∷ 0 ∷ 64 ∷ 64 ∷ 64 ∷ []) (0xFCE676E6 ∷ 0x732FCEE7 ∷ 0xF90E4EE6 ∷ 0x83294EE6 ∷ []) (pos 1 ∷ pos 2 ∷ pos 2 ∷ pos 2 ∷ []) 120) ∷
-    row 120 (syn 5 6379) FreshContact (pos 1) (Address 0x0A000001) (stateOf (65 ∷ 0 ∷ 65 ∷ 64 ∷ 65 ∷ 0 ∷ 64 ∷ 64 ∷ 193 ∷ 64 ∷ 0 ∷ 64 ∷ 0 ∷ 64 ∷ 64 ∷ 64 ∷ []) (0xC0FE76E7 ∷ 0x732FCEE7 ∷ 0xF90E4EE6 ∷ 0x83294EE6 ∷ []) (pos 1 ∷ pos 2 ∷ pos 2 ∷ pos 2 ∷ []) 120) ∷
-    row 120 (syn 4 4840) FreshContact (pos 2) None (stateOf (65 ∷ 0 ∷ 65 ∷ 64 ∷ 65 ∷ 0 ∷ 64 ∷ 64 ∷ 193 ∷ 64 ∷ 0 ∷ 64 ∷ 0 ∷ 64 ∷ 64 ∷ 0 ∷ []) (0xFCE676E6 ∷ 0x732FCEE7 ∷ 0xF90E4EE6 ∷ 0x83294EE6 ∷ []) (pos 2 ∷ pos 2 ∷ pos 2 ∷ pos 2 ∷ []) 120) ∷
-    row 120 (syn 4 6379) FreshContact (pos 1) None (stateOf (65 ∷ 0 ∷ 65 ∷ 0 ∷ 65 ∷ 0 ∷ 64 ∷ 64 ∷ 193 ∷ 64 ∷ 0 ∷ 64 ∷ 0 ∷ 64 ∷ 64 ∷ 0 ∷ []) (0xFCE676E6 ∷ 0x732FCEE7 ∷ 0xF90E4EE6 ∷ 0x83294EE6 ∷ []) (pos 2 ∷ pos 2 ∷ pos 2 ∷ pos 1 ∷ []) 120) ∷
-    row 120 (syn 3 4840) FreshContact (pos 2) None (stateOf (65 ∷ 0 ∷ 65 ∷ 0 ∷ 65 ∷ 0 ∷ 64 ∷ 64 ∷ 193 ∷ 64 ∷ 0 ∷ 64 ∷ 0 ∷ 0 ∷ 64 ∷ 0 ∷ []) (0xFCE676E6 ∷ 0x732FCEE7 ∷ 0xF90E4EE6 ∷ 0 ∷ []) (pos 2 ∷ pos 2 ∷ pos 2 ∷ minus 32768 ∷ []) 120) ∷
-    row 120 (syn 3 6379) FreshContact (pos 1) None (stateOf (65 ∷ 0 ∷ 65 ∷ 0 ∷ 65 ∷ 0 ∷ 64 ∷ 64 ∷ 193 ∷ 64 ∷ 0 ∷ 0 ∷ 0 ∷ 0 ∷ 64 ∷ 0 ∷ []) (0xFCE676E6 ∷ 0x732FCEE7 ∷ 0xF90E4EE6 ∷ 0 ∷ []) (pos 2 ∷ pos 2 ∷ pos 1 ∷ minus 32768 ∷ []) 120) ∷
-    row 120 (syn 2 4840) FreshContact (pos 2) None (stateOf (65 ∷ 0 ∷ 65 ∷ 0 ∷ 65 ∷ 0 ∷ 0 ∷ 64 ∷ 193 ∷ 64 ∷ 0 ∷ 0 ∷ 0 ∷ 0 ∷ 64 ∷ 0 ∷ []) (0xFCE676E6 ∷ 0x732FCEE7 ∷ 0 ∷ 0 ∷ []) (pos 2 ∷ pos 2 ∷ minus 32768 ∷ minus 32768 ∷ []) 120) ∷
-    row 120 (syn 2 6379) FreshContact (pos 1) None (stateOf (65 ∷ 0 ∷ 65 ∷ 0 ∷ 65 ∷ 0 ∷ 0 ∷ 0 ∷ 193 ∷ 64 ∷ 0 ∷ 0 ∷ 0 ∷ 0 ∷ 64 ∷ 0 ∷ []) (0xFCE676E6 ∷ 0x732FCEE7 ∷ 0 ∷ 0 ∷ []) (pos 2 ∷ pos 1 ∷ minus 32768 ∷ minus 32768 ∷ []) 120) ∷ firstRows
+    row 120 (syn 1 2049) Blocked (pos 2) None (stateAt (65 ∷ 64 ∷ 65 ∷ 64 ∷ 65 ∷ 64 ∷ 64 ∷ 64 ∷ 193 ∷ 64 ∷ 0 ∷ 64 ∷ 0 ∷ 64 ∷ 64 ∷ 64 ∷ []) (0xFCE676E6 ∷ 0x732FCEE7 ∷ 0xF90E4EE6 ∷ 0x83294EE6 ∷ []) (pos 2 ∷ pos 2 ∷ pos 2 ∷ pos 2 ∷ []) 120) ∷
+    row 120 (syn 1 2049) FreshContact (pos 2) None (stateAt (65 ∷ 64 ∷ 65 ∷ 64 ∷ 65 ∷ 64 ∷ 64 ∷ 64 ∷ 193 ∷ 64 ∷ 0 ∷ 64 ∷ 0 ∷ 64 ∷ 64 ∷ 64 ∷ []) (0xFCE676E6 ∷ 0x732FCEE7 ∷ 0xF90E4EE6 ∷ 0x83294EE6 ∷ []) (pos 2 ∷ pos 2 ∷ pos 2 ∷ pos 2 ∷ []) 120) ∷
+    row 120 (syn 1 27017) FreshContact (pos 1) (Address 0x0A000005) (stateAt (65 ∷ 0 ∷ 65 ∷ 64 ∷ 65 ∷ 64 ∷ 64 ∷ 64 ∷ 193 ∷ 64 ∷ 0 ∷ 64 ∷ 0 ∷ 64 ∷ 64 ∷ 64 ∷ []) (0xFCE676E6 ∷ 0x732FCEE7 ∷ 0xF90E4EE6 ∷ 0x83294EE6 ∷ []) (pos 1 ∷ pos 2 ∷ pos 2 ∷ pos 2 ∷ []) 120) ∷
+    row 120 (syn 5 6379) FreshContact (pos 1) (Address 0x0A000001) (stateAt (65 ∷ 0 ∷ 65 ∷ 64 ∷ 65 ∷ 0 ∷ 64 ∷ 64 ∷ 193 ∷ 64 ∷ 0 ∷ 64 ∷ 0 ∷ 64 ∷ 64 ∷ 64 ∷ []) (0xC0FE76E7 ∷ 0x732FCEE7 ∷ 0xF90E4EE6 ∷ 0x83294EE6 ∷ []) (pos 1 ∷ pos 2 ∷ pos 2 ∷ pos 2 ∷ []) 120) ∷
+    row 120 (syn 4 4840) FreshContact (pos 2) None (stateAt (65 ∷ 0 ∷ 65 ∷ 64 ∷ 65 ∷ 0 ∷ 64 ∷ 64 ∷ 193 ∷ 64 ∷ 0 ∷ 64 ∷ 0 ∷ 64 ∷ 64 ∷ 0 ∷ []) (0xFCE676E6 ∷ 0x732FCEE7 ∷ 0xF90E4EE6 ∷ 0x83294EE6 ∷ []) (pos 2 ∷ pos 2 ∷ pos 2 ∷ pos 2 ∷ []) 120) ∷
+    row 120 (syn 4 6379) FreshContact (pos 1) None (stateAt (65 ∷ 0 ∷ 65 ∷ 0 ∷ 65 ∷ 0 ∷ 64 ∷ 64 ∷ 193 ∷ 64 ∷ 0 ∷ 64 ∷ 0 ∷ 64 ∷ 64 ∷ 0 ∷ []) (0xFCE676E6 ∷ 0x732FCEE7 ∷ 0xF90E4EE6 ∷ 0x83294EE6 ∷ []) (pos 2 ∷ pos 2 ∷ pos 2 ∷ pos 1 ∷ []) 120) ∷
+    row 120 (syn 3 4840) FreshContact (pos 2) None (stateAt (65 ∷ 0 ∷ 65 ∷ 0 ∷ 65 ∷ 0 ∷ 64 ∷ 64 ∷ 193 ∷ 64 ∷ 0 ∷ 64 ∷ 0 ∷ 0 ∷ 64 ∷ 0 ∷ []) (0xFCE676E6 ∷ 0x732FCEE7 ∷ 0xF90E4EE6 ∷ 0 ∷ []) (pos 2 ∷ pos 2 ∷ pos 2 ∷ minus 32768 ∷ []) 120) ∷
+    row 120 (syn 3 6379) FreshContact (pos 1) None (stateAt (65 ∷ 0 ∷ 65 ∷ 0 ∷ 65 ∷ 0 ∷ 64 ∷ 64 ∷ 193 ∷ 64 ∷ 0 ∷ 0 ∷ 0 ∷ 0 ∷ 64 ∷ 0 ∷ []) (0xFCE676E6 ∷ 0x732FCEE7 ∷ 0xF90E4EE6 ∷ 0 ∷ []) (pos 2 ∷ pos 2 ∷ pos 1 ∷ minus 32768 ∷ []) 120) ∷
+    row 120 (syn 2 4840) FreshContact (pos 2) None (stateAt (65 ∷ 0 ∷ 65 ∷ 0 ∷ 65 ∷ 0 ∷ 0 ∷ 64 ∷ 193 ∷ 64 ∷ 0 ∷ 0 ∷ 0 ∷ 0 ∷ 64 ∷ 0 ∷ []) (0xFCE676E6 ∷ 0x732FCEE7 ∷ 0 ∷ 0 ∷ []) (pos 2 ∷ pos 2 ∷ minus 32768 ∷ minus 32768 ∷ []) 120) ∷
+    row 120 (syn 2 6379) FreshContact (pos 1) None (stateAt (65 ∷ 0 ∷ 65 ∷ 0 ∷ 65 ∷ 0 ∷ 0 ∷ 0 ∷ 193 ∷ 64 ∷ 0 ∷ 0 ∷ 0 ∷ 0 ∷ 64 ∷ 0 ∷ []) (0xFCE676E6 ∷ 0x732FCEE7 ∷ 0 ∷ 0 ∷ []) (pos 2 ∷ pos 1 ∷ minus 32768 ∷ minus 32768 ∷ []) 120) ∷ firstRows
 
 abbrev exactlyRows : List Row
 exactlyRows =
-    row 100 (syn 1 11211) Blocked (pos 2) None (stateOf (0 ∷ 0 ∷ 64 ∷ 0 ∷ 0 ∷ 0 ∷ 0 ∷ 0 ∷ 64 ∷ 0 ∷ 0 ∷ 0 ∷ 0 ∷ 0 ∷ 0 ∷ 0 ∷ []) (0xFCE676E6 ∷ 0 ∷ 0 ∷ 0 ∷ []) (pos 2 ∷ minus 32768 ∷ minus 32768 ∷ minus 32768 ∷ []) 100) ∷
-    row 100 (syn 1 4840) FreshContact (pos 2) None (stateOf (0 ∷ 0 ∷ 64 ∷ 0 ∷ 0 ∷ 0 ∷ 0 ∷ 0 ∷ 64 ∷ 0 ∷ 0 ∷ 0 ∷ 0 ∷ 0 ∷ 0 ∷ 0 ∷ []) (0xFCE676E6 ∷ 0 ∷ 0 ∷ 0 ∷ []) (pos 2 ∷ minus 32768 ∷ minus 32768 ∷ minus 32768 ∷ []) 100) ∷
-    row 100 (syn 1 6379) FreshContact (pos 1) None (stateOf (0 ∷ 0 ∷ 0 ∷ 0 ∷ 0 ∷ 0 ∷ 0 ∷ 0 ∷ 64 ∷ 0 ∷ 0 ∷ 0 ∷ 0 ∷ 0 ∷ 0 ∷ 0 ∷ []) (0xFCE676E6 ∷ 0 ∷ 0 ∷ 0 ∷ []) (pos 1 ∷ minus 32768 ∷ minus 32768 ∷ minus 32768 ∷ []) 100) ∷ []
+    row 100 (syn 1 11211) Blocked (pos 2) None (stateAt (0 ∷ 0 ∷ 64 ∷ 0 ∷ 0 ∷ 0 ∷ 0 ∷ 0 ∷ 64 ∷ 0 ∷ 0 ∷ 0 ∷ 0 ∷ 0 ∷ 0 ∷ 0 ∷ []) (0xFCE676E6 ∷ 0 ∷ 0 ∷ 0 ∷ []) (pos 2 ∷ minus 32768 ∷ minus 32768 ∷ minus 32768 ∷ []) 100) ∷
+    row 100 (syn 1 4840) FreshContact (pos 2) None (stateAt (0 ∷ 0 ∷ 64 ∷ 0 ∷ 0 ∷ 0 ∷ 0 ∷ 0 ∷ 64 ∷ 0 ∷ 0 ∷ 0 ∷ 0 ∷ 0 ∷ 0 ∷ 0 ∷ []) (0xFCE676E6 ∷ 0 ∷ 0 ∷ 0 ∷ []) (pos 2 ∷ minus 32768 ∷ minus 32768 ∷ minus 32768 ∷ []) 100) ∷
+    row 100 (syn 1 6379) FreshContact (pos 1) None (stateAt (0 ∷ 0 ∷ 0 ∷ 0 ∷ 0 ∷ 0 ∷ 0 ∷ 0 ∷ 64 ∷ 0 ∷ 0 ∷ 0 ∷ 0 ∷ 0 ∷ 0 ∷ 0 ∷ []) (0xFCE676E6 ∷ 0 ∷ 0 ∷ 0 ∷ []) (pos 1 ∷ minus 32768 ∷ minus 32768 ∷ minus 32768 ∷ []) 100) ∷ []
 
 and-then : {x y : After Answer} {xs ys : List (After Answer)} → x ≡ y → xs ≡ ys → x ∷ xs ≡ y ∷ ys
 and-then p q = λ i. p i ∷ q i
 
 pub opening-made : made openingRows ≡ said openingRows
-unfolding times howMany every firstBelow foremost badSettings slotOf placeOf addressOf badList holds rankAt rankOf bestNumber bestIn decided tcpKind kindOf needed headerRefusal transportOf headerOf minutePassed agedBy isEmpty larger smaller pointLess decayedBy ownWay countIn emptyWay smallestWay roomFor countOf written badSizes multiplesPassed timePassed fromThePlant fromTheCell fromBlockedCell verdictOf recordAfter countWritten rulingOf earlyRefusal ours byDirection judged
+unfolding times howMany every firstBelow foremost badLimits slotOf placeOf addressOf badList holds rankAt rankOf bestNumber bestIn decided tcpKind kindOf needed headerRefusal transportOf headerOf minutePassed agedBy isEmpty larger smaller pointLess decayedBy ownWay countIn emptyWay smallestWay roomFor countOf written badSizes multiplesPassed timePassed fromThePlant fromTheCell fromBlockedCell verdictOf recordAfter countWritten rulingOf earlyRefusal ours byDirection judged
 opening-made =
     and-then (rw (permuted .plant, permuted .plant-and-1, permuted .slot-1-6379, permuted .machine-1) refl)
     (and-then (rw (permuted .plant, permuted .plant-and-1, permuted .slot-1-6379, permuted .machine-1) refl) refl)
 
 first-made : made firstRows ≡ said firstRows
-unfolding times howMany every firstBelow foremost badSettings slotOf placeOf addressOf badList holds rankAt rankOf bestNumber bestIn decided tcpKind kindOf needed headerRefusal transportOf headerOf minutePassed agedBy isEmpty larger smaller pointLess decayedBy ownWay countIn emptyWay smallestWay roomFor countOf written badSizes multiplesPassed timePassed fromThePlant fromTheCell fromBlockedCell verdictOf recordAfter countWritten rulingOf earlyRefusal ours byDirection judged
+unfolding times howMany every firstBelow foremost badLimits slotOf placeOf addressOf badList holds rankAt rankOf bestNumber bestIn decided tcpKind kindOf needed headerRefusal transportOf headerOf minutePassed agedBy isEmpty larger smaller pointLess decayedBy ownWay countIn emptyWay smallestWay roomFor countOf written badSizes multiplesPassed timePassed fromThePlant fromTheCell fromBlockedCell verdictOf recordAfter countWritten rulingOf earlyRefusal ours byDirection judged
 first-made =
     and-then (rw (permuted .plant, permuted .plant-and-1, permuted .slot-1-5432, permuted .machine-1) refl)
     (and-then (rw (permuted .plant, permuted .plant-and-1, permuted .slot-1-80, permuted .machine-1) refl)
@@ -139,7 +145,7 @@ first-made =
     (and-then (rw (permuted .plant, permuted .plant-and-1, permuted .slot-1-4840, permuted .machine-1) refl) opening-made)))
 
 all-made : made allRows ≡ said allRows
-unfolding times howMany every firstBelow foremost badSettings slotOf placeOf addressOf badList holds rankAt rankOf bestNumber bestIn decided tcpKind kindOf needed headerRefusal transportOf headerOf minutePassed agedBy isEmpty larger smaller pointLess decayedBy ownWay countIn emptyWay smallestWay roomFor countOf written badSizes multiplesPassed timePassed fromThePlant fromTheCell fromBlockedCell verdictOf recordAfter countWritten rulingOf earlyRefusal ours byDirection judged
+unfolding times howMany every firstBelow foremost badLimits slotOf placeOf addressOf badList holds rankAt rankOf bestNumber bestIn decided tcpKind kindOf needed headerRefusal transportOf headerOf minutePassed agedBy isEmpty larger smaller pointLess decayedBy ownWay countIn emptyWay smallestWay roomFor countOf written badSizes multiplesPassed timePassed fromThePlant fromTheCell fromBlockedCell verdictOf recordAfter countWritten rulingOf earlyRefusal ours byDirection judged
 all-made =
     and-then (rw (permuted .plant, permuted .plant-and-1, permuted .slot-1-2049, permuted .machine-1) refl)
     (and-then (rw (permuted .plant, permuted .plant-and-1, permuted .slot-1-2049, permuted .machine-1) refl)
@@ -154,7 +160,7 @@ all-made =
     (first-made))))))))))
 
 exactly-made : made exactlyRows ≡ said exactlyRows
-unfolding times howMany every firstBelow foremost badSettings slotOf placeOf addressOf badList holds rankAt rankOf bestNumber bestIn decided tcpKind kindOf needed headerRefusal transportOf headerOf minutePassed agedBy isEmpty larger smaller pointLess decayedBy ownWay countIn emptyWay smallestWay roomFor countOf written badSizes multiplesPassed timePassed fromThePlant fromTheCell fromBlockedCell verdictOf recordAfter countWritten rulingOf earlyRefusal ours byDirection judged
+unfolding times howMany every firstBelow foremost badLimits slotOf placeOf addressOf badList holds rankAt rankOf bestNumber bestIn decided tcpKind kindOf needed headerRefusal transportOf headerOf minutePassed agedBy isEmpty larger smaller pointLess decayedBy ownWay countIn emptyWay smallestWay roomFor countOf written badSizes multiplesPassed timePassed fromThePlant fromTheCell fromBlockedCell verdictOf recordAfter countWritten rulingOf earlyRefusal ours byDirection judged
 exactly-made =
     and-then (rw (permuted .plant, permuted .plant-and-1, permuted .slot-1-11211, permuted .machine-1) refl)
     (and-then (rw (permuted .plant, permuted .plant-and-1, permuted .slot-1-4840, permuted .machine-1) refl)
@@ -168,7 +174,7 @@ left-is : (rows : List Row) → made rows ≡ said rows → left (site gateway) 
 unfolding left stateAfter
 left-is [] e = refl
 left-is (row ∷ rows) e =
-    ap (λ (s : State). judged document01 (gateway .settings) (gateway .cell) (gateway .plant) (row .time) (row .bytes) s .state) (left-is rows (same-tail e))
+    ap (λ (s : State). judgedHere (row .time) (row .bytes) s .state) (left-is rows (same-tail e))
     ∙ ap (λ (after : After Answer). after .state) (same-head e)
 
 history-is : (rows : List Row) → made rows ≡ said rows → history (site gateway) (coldStart cold) (callsOf rows) ≡ eventsOf rows
@@ -177,14 +183,14 @@ history-is [] e = refl
 history-is (row ∷ rows) e =
     λ i. judgedAt (row .time) (row .bytes) (answer i) ∷ history-is rows (same-tail e) i
   where
-    answer : judged document01 (gateway .settings) (gateway .cell) (gateway .plant) (row .time) (row .bytes) (left (site gateway) (coldStart cold) (callsOf rows)) .answer
+    answer : judgedHere (row .time) (row .bytes) (left (site gateway) (coldStart cold) (callsOf rows)) .answer
         ≡ Judged (row .verdict) (row .count) (row .replaced)
     answer =
-        ap (λ (s : State). judged document01 (gateway .settings) (gateway .cell) (gateway .plant) (row .time) (row .bytes) s .answer) (left-is rows (same-tail e))
+        ap (λ (s : State). judgedHere (row .time) (row .bytes) s .answer) (left-is rows (same-tail e))
         ∙ ap (λ (after : After Answer). after .answer) (same-head e)
 
 pub cold-is : first gateway .state ≡ cold
-unfolding started startRefusal badSettings badSizes coldTables
+unfolding started startRefusal badLimits badSizes coldTables
 cold-is = refl
 
 happened-is : (rows : List Row) → made rows ≡ said rows → happened gateway (callsOf rows) ≡ eventsOf rows
@@ -209,7 +215,7 @@ of-bytes (row ∷ rows) e =
     (each-below 256 (row .bytes) (and-left (allBelow 256 (row .bytes)) (bytesOf rows) e), of-bytes rows (and-right (allBelow 256 (row .bytes)) (bytesOf rows) e))
 
 pub starts : StartsCold gateway
-unfolding startRefusal badSettings badSizes
+unfolding startRefusal badLimits badSizes
 starts = record { not-refused = refl; keys-are-words = each-below (2 ^ 32) (gateway .settings .keys) refl }
 
 -- fresh contacts, from the history, by what was answered
@@ -223,7 +229,7 @@ unfolding every firstBelow foremost holds rankAt rankOf bestNumber bestIn decide
 seven = fresh-is allRows all-made refl
 
 each-counts : (D gateway (happened gateway allowed) ≡ 1) × (H gateway machine (happened gateway allowed) ≡ 2) × (R gateway machine (happened gateway allowed) ≡ 1)
-unfolding howMany timesIn multiplesPassed every firstBelow foremost badSettings holds rankAt rankOf bestNumber bestIn decided headerOf badSizes startRefusal started
+unfolding howMany timesIn multiplesPassed every firstBelow foremost badLimits holds rankAt rankOf bestNumber bestIn decided headerOf badSizes startRefusal started
 each-counts =
     let h = happened-is allRows all-made in
     (ap (D gateway) h, ap (H gateway machine) h, ap (R gateway machine) h)
@@ -242,8 +248,8 @@ no-more = (_, happened-is allRows all-made)
 -- ---- blocked after exactly T
 abbrev twoRows : List Row
 twoRows =
-    row 100 (syn 1 4840) FreshContact (pos 2) None (stateOf (0 ∷ 0 ∷ 64 ∷ 0 ∷ 0 ∷ 0 ∷ 0 ∷ 0 ∷ 64 ∷ 0 ∷ 0 ∷ 0 ∷ 0 ∷ 0 ∷ 0 ∷ 0 ∷ []) (0xFCE676E6 ∷ 0 ∷ 0 ∷ 0 ∷ []) (pos 2 ∷ minus 32768 ∷ minus 32768 ∷ minus 32768 ∷ []) 100) ∷
-    row 100 (syn 1 6379) FreshContact (pos 1) None (stateOf (0 ∷ 0 ∷ 0 ∷ 0 ∷ 0 ∷ 0 ∷ 0 ∷ 0 ∷ 64 ∷ 0 ∷ 0 ∷ 0 ∷ 0 ∷ 0 ∷ 0 ∷ 0 ∷ []) (0xFCE676E6 ∷ 0 ∷ 0 ∷ 0 ∷ []) (pos 1 ∷ minus 32768 ∷ minus 32768 ∷ minus 32768 ∷ []) 100) ∷ []
+    row 100 (syn 1 4840) FreshContact (pos 2) None (stateAt (0 ∷ 0 ∷ 64 ∷ 0 ∷ 0 ∷ 0 ∷ 0 ∷ 0 ∷ 64 ∷ 0 ∷ 0 ∷ 0 ∷ 0 ∷ 0 ∷ 0 ∷ 0 ∷ []) (0xFCE676E6 ∷ 0 ∷ 0 ∷ 0 ∷ []) (pos 2 ∷ minus 32768 ∷ minus 32768 ∷ minus 32768 ∷ []) 100) ∷
+    row 100 (syn 1 6379) FreshContact (pos 1) None (stateAt (0 ∷ 0 ∷ 0 ∷ 0 ∷ 0 ∷ 0 ∷ 0 ∷ 0 ∷ 64 ∷ 0 ∷ 0 ∷ 0 ∷ 0 ∷ 0 ∷ 0 ∷ 0 ∷ []) (0xFCE676E6 ∷ 0 ∷ 0 ∷ 0 ∷ []) (pos 1 ∷ minus 32768 ∷ minus 32768 ∷ minus 32768 ∷ []) 100) ∷ []
 
 pub blocked-after-T : (before : List Event)
     × (happened gateway exactly ≡ judgedAt 100 (syn 1 11211) (Judged Blocked (pos 2) None) ∷ before)

@@ -6,57 +6,61 @@ use mathlib.Core.List.{List}
 use mathlib.Core.Option.{some}
 use mathlib.Core.Path.{_≡_}
 use Prim.Native.Nat.{ℕ, _<_}
+use Rattle.settings.specs.declared.Limits.{Limits}
 use Rattle.settings.specs.declared.Settings.{Settings}
+use Rattle.tables.specs.Tables.{Tables}
 use Rattle.rulings.specs.declared.answers.Answer.{Answer}
 use Rattle.rulings.specs.Answers.{refusalTold, verdictTold}
-use Rattle.rulings.specs.Rules.{document01}
+use Rattle.rulings.specs.Rules.{rulesOf}
 use Rattle.gateway.specs.declared.Reply.{Reply}
-use Rattle.gateway.specs.Calls.{State, After, started, passed, judged}
+use Rattle.gateway.specs.Calls.{State, After, coldPlacing, started, passed, judged}
 
--- any gateway, by what its three calls answer and leave: a cold start, a time alone, a packet
+-- any gateway, by what its three calls answer and leave: a cold start, which is lent tables and a clock, a time alone, a packet
 pub record AnyGateway : Type 0 where
-  pub start : Settings → ℕ → State → After Reply
-  pub pass : Settings → ℕ → State → After Reply
-  pub judge : Settings → List ℕ → List ℕ → ℕ → List ℕ → State → After Answer
+  pub start : Settings → ℕ → Tables → ℕ → After Reply
+  pub pass : Limits → ℕ → State → After Reply
+  pub judge : Limits → List ℕ → List ℕ → ℕ → List ℕ → State → After Answer
 
 module _ (g : AnyGateway) where
   -- the contracts of `cold_start`, `pass` and `judge`
   pub record MeetsContracts : Type 0 where
-    pub of-start : (settings : Settings) (time : ℕ) (before : State) → g .start settings time before ≡ started settings time before
-    pub of-pass : (settings : Settings) (time : ℕ) (before : State) → g .pass settings time before ≡ passed document01 settings time before
-    pub of-judge : (settings : Settings) (cell plant : List ℕ) (time : ℕ) (bytes : List ℕ) (before : State)
-        → g .judge settings cell plant time bytes before ≡ judged document01 settings cell plant time bytes before
+    pub of-start : (settings : Settings) (time : ℕ) (tables : Tables) (clock : ℕ)
+        → g .start settings time tables clock ≡ started settings time (record { placing = coldPlacing settings; tables = tables; clock = clock })
+    pub of-pass : (limits : Limits) (time : ℕ) (before : State) → g .pass limits time before ≡ passed (rulesOf limits) limits time before
+    pub of-judge : (limits : Limits) (cell plant : List ℕ) (time : ℕ) (bytes : List ℕ) (before : State)
+        → g .judge limits cell plant time bytes before ≡ judged (rulesOf limits) limits cell plant time bytes before
 
   -- "a gateway that refuses always"
   abbrev pub RefusesAlways : Type 0
   RefusesAlways =
-      (settings : Settings) (cell plant : List ℕ) (time : ℕ) (bytes : List ℕ) (before : State)
-      → 0 < refusalTold (g .judge settings cell plant time bytes before .answer)
+      (limits : Limits) (cell plant : List ℕ) (time : ℕ) (bytes : List ℕ) (before : State)
+      → 0 < refusalTold (g .judge limits cell plant time bytes before .answer)
 
   -- "one that says 1 to all"
   abbrev pub SaysOneToAll : Type 0
   SaysOneToAll =
-      (settings : Settings) (cell plant : List ℕ) (time : ℕ) (bytes : List ℕ) (before : State)
-      → verdictTold (g .judge settings cell plant time bytes before .answer) ≡ some 1
+      (limits : Limits) (cell plant : List ℕ) (time : ℕ) (bytes : List ℕ) (before : State)
+      → verdictTold (g .judge limits cell plant time bytes before .answer) ≡ some 1
 
   -- "one that touches no table": by a packet, by a time alone, by a cold start
   abbrev pub TouchesNoTableByPackets : Type 0
   TouchesNoTableByPackets =
-      (settings : Settings) (cell plant : List ℕ) (time : ℕ) (bytes : List ℕ) (before : State)
-      → g .judge settings cell plant time bytes before .state .tables ≡ before .tables
+      (limits : Limits) (cell plant : List ℕ) (time : ℕ) (bytes : List ℕ) (before : State)
+      → g .judge limits cell plant time bytes before .state .tables ≡ before .tables
 
   abbrev pub TouchesNoTableByTime : Type 0
-  TouchesNoTableByTime = (settings : Settings) (time : ℕ) (before : State) → g .pass settings time before .state .tables ≡ before .tables
+  TouchesNoTableByTime = (limits : Limits) (time : ℕ) (before : State) → g .pass limits time before .state .tables ≡ before .tables
 
   abbrev pub TouchesNoTableByStarts : Type 0
-  TouchesNoTableByStarts = (settings : Settings) (time : ℕ) (before : State) → g .start settings time before .state .tables ≡ before .tables
+  TouchesNoTableByStarts =
+      (settings : Settings) (time : ℕ) (tables : Tables) (clock : ℕ) → g .start settings time tables clock .state .tables ≡ tables
 
   -- "one that judges the first packet and repeats itself": what it answered to the first packet after a cold start it answers to the next
   abbrev pub RepeatsItself : Type 0
   RepeatsItself =
-      (settings : Settings) (cell plant : List ℕ) (lent : State) (began time next : ℕ) (bytes others : List ℕ)
-      → let first = g .judge settings cell plant time bytes (g .start settings began lent .state) in
-      g .judge settings cell plant next others (first .state) .answer ≡ first .answer
+      (settings : Settings) (cell plant : List ℕ) (tables : Tables) (clock began time next : ℕ) (bytes others : List ℕ)
+      → let first = g .judge (settings .limits) cell plant time bytes (g .start settings began tables clock .state) in
+      g .judge (settings .limits) cell plant next others (first .state) .answer ≡ first .answer
 
   -- none of them
   pub record MustNotPass : Type 0 where

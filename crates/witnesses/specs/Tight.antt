@@ -1,12 +1,13 @@
--- Two runs of one small gateway: T is 2, 16 records, one line of four entries, keys all zero. In the first a machine gets all that demand 3
--- allows, with each of D, H and R above 0, and not one more; in the second it is blocked after exactly T.
+-- Two runs of one small gateway: T is 2, the other settings are the factory's, keys all zero; 16 records, one line of four entries. In the
+-- first a machine gets all that demand 3 allows, with each of D, H and R above 0, and not one more; in the second it is blocked after
+-- exactly T.
 -- Assumes nothing.
 use mathlib.Core.List.{List, [], _∷_}
 use Prim.Native.Nat.{ℕ, _/_, _%_}
 use lib.IntN.{pos}
 use lib.ListN.{replicate}
-use Rattle.laws.specs.Signed.{minus}
-use Rattle.gateway.specs.Calls.{stateOf}
+use Rattle.settings.specs.Settings.{factorySettings, withThreshold}
+use Rattle.gateway.specs.Calls.{stateOf, coldPlacing}
 use Rattle.history.specs.Runs.{Call, packetAt, whyAt}
 use Rattle.promises.specs.Demand3.{Gateway}
 
@@ -14,10 +15,10 @@ use Rattle.promises.specs.Demand3.{Gateway}
 abbrev pub gateway : Gateway
 gateway =
     record {
-      settings = record { threshold = 2; floor = minus 20; dmiss = 60; dconn = 10; keys = replicate 8 0 };
+      settings = withThreshold 2 factorySettings;
       cell = 10 ∷ 0 ∷ 0 ∷ 0 ∷ 8 ∷ [];
       plant = 192 ∷ 168 ∷ 0 ∷ 0 ∷ 16 ∷ [];
-      lent = stateOf (replicate 16 0) (replicate 4 0) (replicate 4 (pos 0)) 0;
+      lent = stateOf (coldPlacing factorySettings) (replicate 16 0) (replicate 4 0) (replicate 4 (pos 0)) 0;
       start = 100;
     }
 
