@@ -53,7 +53,8 @@ module _ (x : Setup) (start : Start) where
 
   -- ---- one call
   module _ (s : State) (h : List Event) (i : Run x start s h) where
-    stepped-passed : (time : ℕ) → Stepped x start (s .clock) h (passed (site .rules) (site .limits) time s .state) (passedAt time (passed (site .rules) (site .limits) time s .answer))
+    stepped-passed : (time : ℕ)
+        → Stepped x start (s .clock) h (passed r (site .limits) time s .state) (passedAt time (passed r (site .limits) time s .answer))
     unfolding passed
     stepped-passed time = go (timeRefusalAt (site .limits) time s) refl
       where

@@ -37,7 +37,7 @@ unfolding timesIn
 once-in n k e = ap (λ (t : Bool). cond {A = ℕ} t 1 0 + 0) (eq-eqb k n e)
 
 -- a count that is above -32,768 is not the mark of an empty entry
-pub not-empty : (c : ℤ) → dn c < 32768 → isEmpty c ≡ false
+not-empty : (c : ℤ) → dn c < 32768 → isEmpty c ≡ false
 not-empty c h = by-dn c ∙ ne-eqb (dn c) 32768 (λ (e : dn c ≡ 32768). omega arith)
 
 -- an address's count among so many lines
@@ -89,7 +89,12 @@ module _ {keys : List ℕ} (k : Keys keys) (lines a : ℕ) (is : lines ≡ 2 ^ a
             back = subst (λ (n : ℕ). addressOf keys (placeOf keys other n) n ≡ other) (sym is) (recovered k a few other small)
 
             is-named : placed other .line ≡ placed writer .line → (t : ℕ) → wrote .replaced ≡ Tag t → t ≡ placed other .tag → 0 < named
-            is-named e t told same = omega (arith, ap (λ (r : Replaced). timesIn other (namedBy r)) told, once-in other _ ((λ i. addressOf keys (record { line = sym e i; tag = same i }) lines) ∙ back))
+            is-named e t told same =
+                omega (
+                  arith,
+                  ap (λ (r : Replaced). timesIn other (namedBy r)) told,
+                  once-in other _ ((λ i. addressOf keys (record { line = sym e i; tag = same i }) lines) ∙ back),
+                )
 
             by-replaced : placed other .line ≡ placed writer .line → (r : Replaced) → wrote .replaced ≡ r → Kept (placed writer .line)
             by-replaced e Nothing told =

@@ -37,7 +37,7 @@ oneOrNone none = []
 oneOrNone (some address) = address ∷ []
 
 -- nothing but a time, if any
-abbrev pub onlyTime : Option ℕ → Told
+abbrev onlyTime : Option ℕ → Told
 onlyTime clock = record { clock = clock; judged = none; lost = [] }
 
 -- the question why passes no time

@@ -50,9 +50,11 @@ module _ (g : Gateway) (cold : StartsCold g) (calls : List Call) (bytes : OfByte
         );
         age-is = λ slot l c last earlier e.
             kept slot l .old c
-            ∙ ap (since (g .settings .limits .dconn) (first g .state .clock) (getD (first g .state .tables .records) slot 0) (first g .held slot) (stateAfterAll g calls .clock)) e;
+            ∙ ap (since (g .settings .limits .dconn) (first g .state .clock) (getD (first g .state .tables .records) slot 0) (first g .held slot)
+            (stateAfterAll g calls .clock)) e;
         four-exactly-if-fresh = λ after before time packet answered e. (
-          λ q. fresh-is (site g) (first g .state) time (oursOf (site g) packet) (verdictTold answered) before .0 (four after before time packet answered e ∙ ap (tells 4) q),
+          λ q. fresh-is (site g) (first g .state) time (oursOf (site g) packet) (verdictTold answered) before .0
+              (four after before time packet answered e ∙ ap (tells 4) q),
           λ w. told-is 4 (verdictTold answered)
               (sym (four after before time packet answered e) ∙ fresh-is (site g) (first g .state) time (oursOf (site g) packet) (verdictTold answered) before .1 w),
         );
