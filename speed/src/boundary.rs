@@ -1,10 +1,11 @@
 //! Table 3: a minute boundary over all records.
 
-use crate::ours::{self, Settings, TIMED};
+use crate::ours::{self, Settings};
 use crate::plain;
 use crate::stopwatch::{commas, head, in_turn_by, ratio, row, timed};
 use crate::trace::Random;
 use std::hint::black_box;
+use std::sync::LazyLock;
 
 pub const LARGEST: usize = 1_048_576;
 /// Records, and how many percent of them are marked.
@@ -17,7 +18,8 @@ const MINUTES: u32 = 16;
 /// The bytes that memory takes at a time, and the records that a plain loop stores to or leaves alone together.
 const LINE: usize = 64;
 const PART: usize = 128;
-const SETTINGS: Settings = Settings { dmiss: 3_600, dconn: 62, ..TIMED };
+/// Made once, so that no boundary pays for it.
+static SETTINGS: LazyLock<Settings> = LazyLock::new(|| ours::settings().with_dmiss(3_600).with_dconn(62));
 const NOTES: &str = "\
     Each table passes 16 boundaries in a round, one to a call. Before the round, outside of the timed part, so many of its \
     records are marked at random with ages 0 to 62, the rest are 0; so the tables are warm. Of the marked ones a quarter \
@@ -43,7 +45,7 @@ pub fn marked(records: usize, percent: u32) -> Vec<u8> {
 /// One minute boundary over lent tables by the proved gateway.
 fn pass_ours(records: &mut [u8]) {
     let (mut tags, mut counts, mut clock) = ([0; 4], [i16::MIN; 4], 0);
-    black_box(ours::pass(black_box(&SETTINGS), records, &mut tags, &mut counts, &mut clock, 60));
+    black_box(ours::pass(black_box(*SETTINGS), records, &mut tags, &mut counts, &mut clock, 60));
 }
 
 /// The same by the plain program, called as ours is.

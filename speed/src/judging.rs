@@ -2,7 +2,7 @@
 //! cost.
 
 use crate::each_call::EachCall;
-use crate::ours::{Caller, TIMED};
+use crate::ours::{self, Caller};
 use crate::plain;
 use crate::stopwatch::{commas, head, in_turn, ratio, row, timed, Figures};
 use crate::trace::{Mix, Trace, KINDS, MIXED, START};
@@ -62,7 +62,7 @@ impl Programs {
         let cell = side_list(entries, [172, 16], [10, 0, 0, 0, 8]);
         let plant = side_list(entries, [198, 18], [192, 168, 0, 0, 16]);
         // Else a test of what the compiler knows would cost nothing.
-        let (settings, (records, lines)) = black_box((TIMED, sizes));
+        let (settings, (records, lines)) = black_box((ours::settings(), sizes));
         let [ours, each_call] = [(); 2].map(|_| Caller::new(settings, &cell, &plant, records, lines));
         let plain = plain::Gateway::new(settings, &cell, &plant, records, lines);
         let Ok(plain) = plain else { panic!("the plain gateway was refused") };
