@@ -2,7 +2,7 @@
 ghost use mathlib.Core.Path.{_≡_};
 ghost use lib.ListN.{length, replicate};
 ghost use Rattle.laws.specs.Signed.{minus};
-ghost use Rattle.tables.specs.Tables.{tablesOf};
+ghost use Rattle.tables.specs.Tables.{lentTables, leftTables};
 ghost use Rattle.cold.specs.Cold.{coldTables};
 
 // Makes every record one without a mark.
@@ -40,8 +40,7 @@ fn empty_counts(counts: &mut [i16])
 
 // Fills all tables as a cold start does, whatever they held: 0 in every record and tag, -32,768 in every count.
 pub fn fill(records: &mut [u8], tags: &mut [u32], counts: &mut [i16])
-    ensures { λ _. ⌜ tablesOf (now (records .exit)) (now (tags .exit)) (now (counts .exit))
-        ≡ coldTables (tablesOf (now (records .entry)) (now (tags .entry)) (now (counts .entry))) ⌝ }
+    ensures { λ _. ⌜ leftTables records tags counts ≡ coldTables (lentTables records tags counts) ⌝ }
 {
     clear_records(records);
     clear_tags(tags);

@@ -8,8 +8,9 @@ use Prim.Native.Nat.{ℕ, zero, suc}
 use lib.IntN.{ℤ}
 use lib.ListN.{length}
 use Rattle.laws.proofs.Tests.{true-is-not-false}
-use Rattle.settings.specs.declared.Settings.{Settings}
+use Rattle.settings.specs.declared.Limits.{Limits}
 use Rattle.packet.specs.declared.Header.{Header}
+use Rattle.places.specs.declared.Placing.{Placing}
 use Rattle.packet.specs.Header.{headerOf}
 use Rattle.packet.specs.declared.kinds.Kind.{Kind}
 use Rattle.sides.specs.declared.Side.{Side}
@@ -37,7 +38,7 @@ use Rattle.rulings.specs.declared.answers.Answer.{Answer}
 use Rattle.rulings.specs.declared.answers.Answer.the-variants as answer
 use Rattle.rulings.specs.declared.answers.Replacement.the-variants.{None}
 use Rattle.rulings.specs.Answers.{refusalTold, verdictTold, countTold, addressTold, replacedTold}
-use Rattle.rulings.specs.Rules.{document01}
+use Rattle.rulings.specs.Rules.{slotRule, rulesOf}
 use Rattle.rulings.specs.Rulings.{verdictBy, rulingOf}
 use Rattle.rulings.proofs.Slips.{drop-writes-nothing}
 use Rattle.gateway.specs.declared.Met.{Met}
@@ -65,24 +66,24 @@ numbers-agree r v n =
       replaced = λ count e. absurd (Option·none-ne-some count (sym n ∙ e));
     }
 
-module _ (settings : Settings) (cell plant : List ℕ) where
-  module _ (h : Header) (fromPlant : Bool) (spot : Spot) (tables : Tables) where
+module _ (limits : Limits) (cell plant : List ℕ) where
+  module _ (placing : Placing) (h : Header) (fromPlant : Bool) (spot : Spot) (tables : Tables) where
     abbrev met : Met
     met = metIn spot tables
 
     abbrev ruling : Ruling
-    ruling = rulingAt (document01 settings) h fromPlant spot tables
+    ruling = rulingAt (rulesOf limits) h fromPlant spot tables
 
-    by-whether : (t : Bool) → isForwarded (verdictBy (document01 settings) h fromPlant (met .byte) (met .count)) ≡ t
+    by-whether : (t : Bool) → isForwarded (verdictBy (rulesOf limits) h fromPlant (met .byte) (met .count)) ≡ t
         → Agrees
         (cond t
-        (why.Forwarded (verdictBy (document01 settings) h fromPlant (met .byte) (met .count)))
-        (why.Dropped (dropOf (document01 settings) cell plant h (verdictBy (document01 settings) h fromPlant (met .byte) (met .count)) met)))
-        (settled (settings .keys) spot ruling tables .answer)
+        (why.Forwarded (verdictBy (rulesOf limits) h fromPlant (met .byte) (met .count)))
+        (why.Dropped (dropOf (rulesOf limits) cell plant h (verdictBy (rulesOf limits) h fromPlant (met .byte) (met .count)) met)))
+        (settled (placing .keys) spot ruling tables .answer)
     unfolding rulingOf
     by-whether true e = numbers-agree refl refl refl
     by-whether false e =
-        let nothing = drop-writes-nothing settings h fromPlant (met .byte) (met .count) e in
+        let nothing = drop-writes-nothing limits h fromPlant (met .byte) (met .count) e in
         record {
           refusal = refl;
           verdict = refl;
@@ -91,23 +92,23 @@ module _ (settings : Settings) (cell plant : List ℕ) where
         }
       where
         replaced-by : ruling .writes ≡ false
-            → replacementOf (settings .keys) (spot .lines) (spot .place .line) (entered (spot .place) ruling (tables .tags) (tables .counts) .replaced) ≡ None
+            → replacementOf (placing .keys) (spot .lines) (spot .place .line) (entered (spot .place) ruling (tables .tags) (tables .counts) .replaced) ≡ None
         replaced-by w =
-            ap (λ (x : Written). replacementOf (settings .keys) (spot .lines) (spot .place .line) (x .replaced))
+            ap (λ (x : Written). replacementOf (placing .keys) (spot .lines) (spot .place .line) (x .replaced))
             (ap (λ (t : Bool). cond t (written (spot .place .line) (spot .place .tag) (ruling .count) (tables .tags) (tables .counts)) (writtenOf Nothing (tables .tags) (tables .counts))) w)
 
-  ours-agree : (h : Header) (fromPlant : Bool) (tables : Tables)
-      → Agrees (whyOurs document01 settings cell plant h fromPlant tables) (ours document01 settings h fromPlant tables .answer)
+  ours-agree : (placing : Placing) (h : Header) (fromPlant : Bool) (tables : Tables)
+      → Agrees (whyOurs (rulesOf limits) placing cell plant h fromPlant tables) (ours (rulesOf limits) placing h fromPlant tables .answer)
   unfolding whyOurs ours
-  ours-agree h fromPlant tables =
-      by-whether h fromPlant (spotOf (document01 settings) (settings .keys) h fromPlant (length (tables .records)) (length (tables .tags))) tables _ refl
+  ours-agree placing h fromPlant tables =
+      by-whether placing h fromPlant (spotOf slotRule placing h fromPlant (length (tables .records)) (length (tables .tags))) tables _ refl
 
-  directions-agree : (h : Header) (d : Direction) (tables : Tables)
-      → Agrees (whyByDirection document01 settings cell plant h d tables) (byDirection document01 settings h d tables .answer)
+  directions-agree : (placing : Placing) (h : Header) (d : Direction) (tables : Tables)
+      → Agrees (whyByDirection (rulesOf limits) placing cell plant h d tables) (byDirection (rulesOf limits) placing h d tables .answer)
   unfolding whyByDirection byDirection
-  directions-agree h FromCell tables = ours-agree h false tables
-  directions-agree h FromPlant tables = ours-agree h true tables
-  directions-agree h NotOurs tables = numbers-agree refl refl refl
+  directions-agree placing h FromCell tables = ours-agree placing h false tables
+  directions-agree placing h FromPlant tables = ours-agree placing h true tables
+  directions-agree placing h NotOurs tables = numbers-agree refl refl refl
 
   refusals-agree : (number : ℕ) (told : Explanation) (before : State) (after : After Answer) → Agrees told (after .answer)
       → Agrees (unlessRefusedBy number told) (unlessRefused answer.Refused number before after .answer)
@@ -116,11 +117,11 @@ module _ (settings : Settings) (cell plant : List ℕ) where
 
   -- for every input: "It is refused exactly as the packet would be", and what it tells is what `judge` would answer
   pub agrees : (time : ℕ) (bytes : List ℕ) (before : State)
-      → Agrees (whyOf document01 settings cell plant time bytes before) (judged document01 settings cell plant time bytes before .answer)
+      → Agrees (whyOf (rulesOf limits) limits cell plant time bytes before) (judged (rulesOf limits) limits cell plant time bytes before .answer)
   unfolding whyOf judged
   agrees time bytes before =
-      refusals-agree (packetRefusal settings cell plant time bytes before) _ before _
-      (directions-agree (headerOf bytes) (directionIn cell plant (headerOf bytes)) (onward 1 settings time before .tables))
+      refusals-agree (packetRefusal limits cell plant time bytes before) _ before _
+      (directions-agree (before .placing) (headerOf bytes) (directionIn cell plant (headerOf bytes)) (onward 1 limits time before .tables))
 
 -- ---- what is told of a drop
 abbrev pub isSome : {A : Type 0} → Option A → Bool
@@ -131,9 +132,9 @@ isSome (some a) = true
 abbrev pub factsIn : Drop → Facts
 factsIn drop = factsOf (drop .count) (drop .marks .plant) (drop .marks .cell) (drop .header .transport .kind)
 
-pub record TrueOf (settings : Settings) (cell plant : List ℕ) (drop : Drop) : Type 0 where
+pub record TrueOf (limits : Limits) (cell plant : List ℕ) (drop : Drop) : Type 0 where
   -- T is that of the settings
-  pub threshold : drop .threshold ≡ settings .threshold
+  pub threshold : drop .threshold ≡ limits .threshold
   -- the packet is dropped by these facts, as the verdict's own definition says
   pub verdict : drop .verdict ≡ verdictOn (drop .threshold) (factsIn drop)
   pub dropped : isForwarded (drop .verdict) ≡ false
@@ -147,15 +148,15 @@ pub record TrueOf (settings : Settings) (cell plant : List ℕ) (drop : Drop) : 
   pub cell-bytes : StandsIn (winnerOf cell plant (drop .header .source)) (drop .«cell_entry»)
   pub plant-bytes : StandsIn (winnerOf cell plant (drop .header .destination)) (drop .«plant_entry»)
 
-abbrev pub TrueWhere : Settings → List ℕ → List ℕ → Option Drop → Type 0
-TrueWhere settings cell plant none = Unit {0}
-TrueWhere settings cell plant (some drop) = TrueOf settings cell plant drop
+abbrev pub TrueWhere : Limits → List ℕ → List ℕ → Option Drop → Type 0
+TrueWhere limits cell plant none = Unit {0}
+TrueWhere limits cell plant (some drop) = TrueOf limits cell plant drop
 
-pub record AllTrue (settings : Settings) (cell plant : List ℕ) (told : Explanation) : Type 0 where
+pub record AllTrue (limits : Limits) (cell plant : List ℕ) (told : Explanation) : Type 0 where
   -- "Verdicts 0 to 4 get the verdict alone": why is told of 5 and 6, and of no other and no refusal
   pub alone : isSome (dropExplained told) ≡ isDropNumber (verdictExplained told)
   -- and what is told holds
-  pub holds : TrueWhere settings cell plant (dropExplained told)
+  pub holds : TrueWhere limits cell plant (dropExplained told)
 
 -- the plant's packets are all forwarded
 plant-passes : (blocked : Bool) (marks : Marks) (kind : Kind) → isForwarded (verdictOf true blocked marks kind) ≡ true
@@ -192,25 +193,25 @@ sides-of Plant Plant e = true-is-not-false (ap isFromCell e) refl
 sides-of Plant Neither e = true-is-not-false (ap isFromCell e) refl
 sides-of Neither destination e = true-is-not-false (ap isFromCell e) refl
 
-module _ (settings : Settings) (cell plant : List ℕ) where
+module _ (limits : Limits) (cell plant : List ℕ) where
   stands-at : (address : ℕ) (side : Side) → sideOf cell plant address ≡ side
       → winningOf cell plant address ≡ record { side = side; number = winningOf cell plant address .number }
   stands-at address side e =
       ap (λ (s : Side). record { side = s; number = winningOf cell plant address .number }) (sym (same-side cell plant address) ∙ e)
 
   -- a verdict alone, and one with what is told beside it
-  verdict-alone : (verdict : Verdict) → isForwarded verdict ≡ true → AllTrue settings cell plant (why.Forwarded verdict)
+  verdict-alone : (verdict : Verdict) → isForwarded verdict ≡ true → AllTrue limits cell plant (why.Forwarded verdict)
   verdict-alone verdict e = record { alone = sym (dropped-by-number verdict ∙ ap not e); holds = tt }
 
-  told-why : {drop : Drop} → TrueOf settings cell plant drop → AllTrue settings cell plant (why.Dropped drop)
+  told-why : {drop : Drop} → TrueOf limits cell plant drop → AllTrue limits cell plant (why.Dropped drop)
   told-why {drop} told = record { alone = sym (dropped-by-number (drop .verdict) ∙ ap not (told .dropped)); holds = told }
 
   cell-true : (h : Header) (met : Met) → directionIn cell plant h ≡ FromCell → (t : Bool)
-      → isForwarded (verdictBy (document01 settings) h false (met .byte) (met .count)) ≡ t
-      → AllTrue settings cell plant
+      → isForwarded (verdictBy (rulesOf limits) h false (met .byte) (met .count)) ≡ t
+      → AllTrue limits cell plant
       (cond t
-      (why.Forwarded (verdictBy (document01 settings) h false (met .byte) (met .count)))
-      (why.Dropped (dropOf (document01 settings) cell plant h (verdictBy (document01 settings) h false (met .byte) (met .count)) met)))
+      (why.Forwarded (verdictBy (rulesOf limits) h false (met .byte) (met .count)))
+      (why.Dropped (dropOf (rulesOf limits) cell plant h (verdictBy (rulesOf limits) h false (met .byte) (met .count)) met)))
   cell-true h met d true e = verdict-alone _ e
   cell-true h met d false e =
       let ends = sides-of _ _ d in
@@ -219,40 +220,40 @@ module _ (settings : Settings) (cell plant : List ℕ) where
         verdict = refl;
         dropped = e;
         reported = refl;
-        one = at-least-one (settings .threshold) (factsOf (met .count) (plantSeen (met .byte)) (cellSeen (met .byte)) (h .transport .kind)) e;
+        one = at-least-one (limits .threshold) (factsOf (met .count) (plantSeen (met .byte)) (cellSeen (met .byte)) (h .transport .kind)) e;
         of-cell = stands-at (h .source) Cell (ends .0);
         of-plant = stands-at (h .destination) Plant (ends .1);
         cell-bytes = in-cell cell plant (h .source) (ends .0);
         plant-bytes = in-plant cell plant (h .destination) (ends .1);
       })
 
-  plant-true : (h : Header) (met : Met) (t : Bool) → isForwarded (verdictBy (document01 settings) h true (met .byte) (met .count)) ≡ t
-      → AllTrue settings cell plant
+  plant-true : (h : Header) (met : Met) (t : Bool) → isForwarded (verdictBy (rulesOf limits) h true (met .byte) (met .count)) ≡ t
+      → AllTrue limits cell plant
       (cond t
-      (why.Forwarded (verdictBy (document01 settings) h true (met .byte) (met .count)))
-      (why.Dropped (dropOf (document01 settings) cell plant h (verdictBy (document01 settings) h true (met .byte) (met .count)) met)))
+      (why.Forwarded (verdictBy (rulesOf limits) h true (met .byte) (met .count)))
+      (why.Dropped (dropOf (rulesOf limits) cell plant h (verdictBy (rulesOf limits) h true (met .byte) (met .count)) met)))
   plant-true h met true e = verdict-alone _ e
   plant-true h met false e = true-is-not-false (plant-passes _ _ _) e
 
   -- what a packet of ours meets
-  abbrev metBy : Header → Bool → Tables → Met
-  metBy h fromPlant tables =
-      metIn (spotOf (document01 settings) (settings .keys) h fromPlant (length (tables .records)) (length (tables .tags))) tables
+  abbrev metBy : Placing → Header → Bool → Tables → Met
+  metBy placing h fromPlant tables =
+      metIn (spotOf slotRule placing h fromPlant (length (tables .records)) (length (tables .tags))) tables
 
-  by-direction : (h : Header) (d : Direction) (tables : Tables) → directionIn cell plant h ≡ d
-      → AllTrue settings cell plant (whyByDirection document01 settings cell plant h d tables)
+  by-direction : (placing : Placing) (h : Header) (d : Direction) (tables : Tables) → directionIn cell plant h ≡ d
+      → AllTrue limits cell plant (whyByDirection (rulesOf limits) placing cell plant h d tables)
   unfolding whyByDirection whyOurs
-  by-direction h FromCell tables e = cell-true h (metBy h false tables) e _ refl
-  by-direction h FromPlant tables e = plant-true h (metBy h true tables) _ refl
-  by-direction h NotOurs tables e = record { alone = refl; holds = tt }
+  by-direction placing h FromCell tables e = cell-true h (metBy placing h false tables) e _ refl
+  by-direction placing h FromPlant tables e = plant-true h (metBy placing h true tables) _ refl
+  by-direction placing h NotOurs tables e = record { alone = refl; holds = tt }
 
-  unless-refused : (number : ℕ) (told : Explanation) → AllTrue settings cell plant told → AllTrue settings cell plant (unlessRefusedBy number told)
+  unless-refused : (number : ℕ) (told : Explanation) → AllTrue limits cell plant told → AllTrue limits cell plant (unlessRefusedBy number told)
   unless-refused zero told true-of = true-of
   unless-refused (suc n) told true-of = record { alone = refl; holds = tt }
 
   -- for every input: what is told of a packet that is dropped holds of it, and only a packet from the cell is
-  pub all-true : (time : ℕ) (bytes : List ℕ) (before : State) → AllTrue settings cell plant (whyOf document01 settings cell plant time bytes before)
+  pub all-true : (time : ℕ) (bytes : List ℕ) (before : State) → AllTrue limits cell plant (whyOf (rulesOf limits) limits cell plant time bytes before)
   unfolding whyOf
   all-true time bytes before =
-      unless-refused (packetRefusal settings cell plant time bytes before) _
-      (by-direction (headerOf bytes) (directionIn cell plant (headerOf bytes)) (onward 1 settings time before .tables) refl)
+      unless-refused (packetRefusal limits cell plant time bytes before) _
+      (by-direction (before .placing) (headerOf bytes) (directionIn cell plant (headerOf bytes)) (onward 1 limits time before .tables) refl)

@@ -8,8 +8,9 @@ use native.Mathlib.Omega.{arith}
 use lib.IntN.{ℤ}
 use lib.ListN.{length, getD, length-map, List·getD-map}
 use Rattle.laws.proofs.Tests.{true-is-not-false}
-use Rattle.settings.specs.declared.Settings.{Settings}
+use Rattle.settings.specs.declared.Limits.{Limits}
 use Rattle.packet.specs.declared.Header.{Header}
+use Rattle.places.specs.declared.Placing.{Placing}
 use Rattle.packet.specs.declared.Reading.{Reading}
 use Rattle.packet.specs.declared.Reading.the-variants.{Refused as Unread, Packet}
 use Rattle.packet.specs.Header.{headerRefusal, headerOf, readOf}
@@ -24,7 +25,7 @@ use Rattle.counts.specs.Counts.{isBlocked, decayedBy}
 use Rattle.entries.specs.Entries.{countOf}
 use Rattle.entries.proofs.Decay.{count-decays}
 use Rattle.tables.specs.Clock.{multiplesPassed, timePassed}
-use Rattle.tables.specs.Tables.{Tables}
+use Rattle.tables.specs.Tables.{Tables, tablesOf}
 use Rattle.verdicts.specs.declared.Verdict.{Verdict}
 use Rattle.verdicts.specs.Verdicts.{isForwarded, verdictOf}
 use Rattle.reasons.specs.declared.Drop.{Drop}
@@ -32,53 +33,53 @@ use Rattle.reasons.specs.declared.Reported.{Reported}
 use Rattle.reasons.specs.Reasons.{factsOf, reportedOn}
 use Rattle.reasons.specs.declared.Explanation.{Explanation}
 use Rattle.reasons.specs.declared.Explanation.the-variants.{Refused, NotOurs as NotOurs′, Forwarded, Dropped}
-use Rattle.rulings.specs.Rules.{Rules, document01}
+use Rattle.rulings.specs.Rules.{Rules, slotRule, rulesOf}
 use Rattle.rulings.specs.Rulings.{verdictBy}
 use Rattle.refusals.specs.Refusals.{earlyRefusal}
 use Rattle.gateway.specs.declared.Met.{Met}
 use Rattle.gateway.specs.declared.Spot.{Spot}
 use Rattle.gateway.specs.Packets.{spotOf, directionIn, isOurs, isFromPlant}
-use Rattle.gateway.specs.Calls.{State, stateOf, bySizes, onward}
+use Rattle.gateway.specs.Calls.{State, bySizes, tablesAt, onward}
 use Rattle.gateway.specs.Why.{metIn, dropOf, whyMet, whyOurs, whyByDirection, unlessRefusedBy, whyOf}
 use Rattle.gateway.proofs.Steps.{unread, was-read, or-else, first-of-two}
 
 -- ---- one record and one line, aged as the clock would do it
-module _ (settings : Settings) (time : ℕ) (records tags : List ℕ) (counts : List ℤ) (clock : ℕ) where
+module _ (limits : Limits) (time : ℕ) (records tags : List ℕ) (counts : List ℤ) (clock : ℕ) where
   -- the tables as they would stand
-  abbrev then : State
-  then = onward 1 settings time (stateOf records tags counts clock)
+  abbrev then : Tables
+  then = tablesAt 1 limits clock time (tablesOf records tags counts)
 
   -- a record of a table that is aged is that record aged; where there is none it is 0, which stays
-  aged-at : (minutes slot : ℕ) → getD (map (agedBy (settings .dconn) minutes) records) slot 0 ≡ agedBy (settings .dconn) minutes (getD records slot 0)
+  aged-at : (minutes slot : ℕ) → getD (map (agedBy (limits .dconn) minutes) records) slot 0 ≡ agedBy (limits .dconn) minutes (getD records slot 0)
   aged-at minutes slot =
-      ap (getD (map (agedBy (settings .dconn) minutes) records) slot) (sym (zero-same (settings .dconn) minutes 0 refl))
-      ∙ List·getD-map (agedBy (settings .dconn) minutes) records slot 0
+      ap (getD (map (agedBy (limits .dconn) minutes) records) slot) (sym (zero-same (limits .dconn) minutes 0 refl))
+      ∙ List·getD-map (agedBy (limits .dconn) minutes) records slot 0
 
   pub met-as : (spot : Spot) {minutes multiples byte : ℕ} {count left : ℤ}
-      → minutes ≡ multiplesPassed 60 clock time → multiples ≡ multiplesPassed (settings .dmiss) clock time
-      → byte ≡ agedBy (settings .dconn) minutes (getD records (spot .slot) 0)
+      → minutes ≡ multiplesPassed 60 clock time → multiples ≡ multiplesPassed (limits .dmiss) clock time
+      → byte ≡ agedBy (limits .dconn) minutes (getD records (spot .slot) 0)
       → count ≡ countOf (spot .place .line) (spot .place .tag) tags counts → left ≡ decayedBy (multiples * 1) count
-      → record { byte = byte; count = left } ≡ metIn spot (then .tables)
+      → record { byte = byte; count = left } ≡ metIn spot then
   unfolding timePassed
   met-as spot p q b c l = λ i. record {
-    byte = (b ∙ ap (λ (m : ℕ). agedBy (settings .dconn) m (getD records (spot .slot) 0)) p ∙ sym (aged-at _ (spot .slot))) i;
+    byte = (b ∙ ap (λ (m : ℕ). agedBy (limits .dconn) m (getD records (spot .slot) 0)) p ∙ sym (aged-at _ (spot .slot))) i;
     count =
         (l
         ∙ (λ j. decayedBy (q j * 1) (c j))
-        ∙ sym (count-decays (multiplesPassed (settings .dmiss) clock time * 1) (spot .place .line) (spot .place .tag) tags counts)) i;
+        ∙ sym (count-decays (multiplesPassed (limits .dmiss) clock time * 1) (spot .place .line) (spot .place .tag) tags counts)) i;
   }
 
   -- it is looked up where it would be in the tables as they stand
-  pub why-ours : (cell plant : List ℕ) (h : Header) (fromPlant : Bool) {spot : Spot} {met : Met} {left : Explanation}
-      → spot ≡ spotOf (document01 settings) (settings .keys) h fromPlant (length records) (length tags)
-      → met ≡ metIn spot (then .tables) → left ≡ whyMet (document01 settings) cell plant h fromPlant met
-      → left ≡ whyOurs document01 settings cell plant h fromPlant (then .tables)
+  pub why-ours : (placing : Placing) (cell plant : List ℕ) (h : Header) (fromPlant : Bool) {spot : Spot} {met : Met} {left : Explanation}
+      → spot ≡ spotOf slotRule placing h fromPlant (length records) (length tags)
+      → met ≡ metIn spot then → left ≡ whyMet (rulesOf limits) cell plant h fromPlant met
+      → left ≡ whyOurs (rulesOf limits) placing cell plant h fromPlant then
   unfolding whyOurs timePassed
-  why-ours cell plant h fromPlant s m l =
+  why-ours placing cell plant h fromPlant s m l =
       l
-      ∙ ap (whyMet (document01 settings) cell plant h fromPlant) m
-      ∙ ap (λ (x : Spot). whyMet (document01 settings) cell plant h fromPlant (metIn x (then .tables)))
-      (s ∙ ap (λ (n : ℕ). spotOf (document01 settings) (settings .keys) h fromPlant n (length tags)) (sym (length-map records _)))
+      ∙ ap (whyMet (rulesOf limits) cell plant h fromPlant) m
+      ∙ ap (λ (x : Spot). whyMet (rulesOf limits) cell plant h fromPlant (metIn x then))
+      (s ∙ ap (λ (n : ℕ). spotOf slotRule placing h fromPlant n (length tags)) (sym (length-map records _)))
 
 -- ---- by what it meets
 pub drop-as : (rules : Rules) (cell plant : List ℕ) (h : Header) (verdict : Verdict) (met : Met) {marks : Marks} {of-cell of-plant : Entry} {reported : Reported}
@@ -131,15 +132,15 @@ module _ (rules : Rules) (cell plant : List ℕ) (h : Header) (fromPlant : Bool)
   why-forwarded v e f = ap Forwarded v ∙ ap by-whether (whether true v e f)
 
 -- ---- by its direction
-module _ (rules : Settings → Rules) (settings : Settings) (cell plant : List ℕ) (h : Header) (tables : Tables) where
+module _ (rules : Rules) (placing : Placing) (cell plant : List ℕ) (h : Header) (tables : Tables) where
   pub why-of-ours : (d : Direction) {found fromPlant : Bool} → found ≡ isOurs d → found ≡ true → fromPlant ≡ isFromPlant d
-      → whyOurs rules settings cell plant h fromPlant tables ≡ whyByDirection rules settings cell plant h d tables
+      → whyOurs rules placing cell plant h fromPlant tables ≡ whyByDirection rules placing cell plant h d tables
   unfolding whyByDirection
-  why-of-ours FromCell e t f = ap (λ (b : Bool). whyOurs rules settings cell plant h b tables) f
-  why-of-ours FromPlant e t f = ap (λ (b : Bool). whyOurs rules settings cell plant h b tables) f
+  why-of-ours FromCell e t f = ap (λ (b : Bool). whyOurs rules placing cell plant h b tables) f
+  why-of-ours FromPlant e t f = ap (λ (b : Bool). whyOurs rules placing cell plant h b tables) f
   why-of-ours NotOurs e t f = true-is-not-false t e
 
-  pub why-not-ours : (d : Direction) {found : Bool} → found ≡ isOurs d → found ≡ false → NotOurs′ ≡ whyByDirection rules settings cell plant h d tables
+  pub why-not-ours : (d : Direction) {found : Bool} → found ≡ isOurs d → found ≡ false → NotOurs′ ≡ whyByDirection rules placing cell plant h d tables
   unfolding whyByDirection
   why-not-ours FromCell e t = true-is-not-false e t
   why-not-ours FromPlant e t = true-is-not-false e t
@@ -154,26 +155,26 @@ by-none : (number : ℕ) (why : Explanation) → 0 ≡ number → why ≡ unless
 by-none zero why z = refl
 by-none (suc k) why z = absurd (omega arith)
 
-module _ (rules : Settings → Rules) (settings : Settings) (cell plant : List ℕ) (time : ℕ) (bytes : List ℕ) (before : State) where
+module _ (rules : Rules) (limits : Limits) (cell plant : List ℕ) (time : ℕ) (bytes : List ℕ) (before : State) where
   abbrev first : ℕ
-  first = bySizes (earlyRefusal settings) (before .tables) cell plant (before .clock) time
+  first = bySizes (earlyRefusal limits) (before .tables) cell plant (before .clock) time
 
   abbrev explained : Header → Direction → Explanation
-  explained h d = whyByDirection rules settings cell plant h d (onward (rules settings .point) settings time before .tables)
+  explained h d = whyByDirection rules (before .placing) cell plant h d (onward (rules .point) limits time before .tables)
 
-  pub why-refused-first : {n : ℕ} → n ≡ first → (n ≡ 0 → ⊥) → Refused n ≡ whyOf rules settings cell plant time bytes before
+  pub why-refused-first : {n : ℕ} → n ≡ first → (n ≡ 0 → ⊥) → Refused n ≡ whyOf rules limits cell plant time bytes before
   unfolding whyOf
   why-refused-first e ne = by-number _ _ (first-of-two first (headerRefusal bytes) e ne) ne
 
   pub why-refused-reading : {n : ℕ} {reading : Reading} → first ≡ 0 → reading ≡ readOf bytes → reading ≡ Unread n
-      → Refused n ≡ whyOf rules settings cell plant time bytes before
+      → Refused n ≡ whyOf rules limits cell plant time bytes before
   unfolding whyOf readOf
   why-refused-reading {n} z r e =
       let u = unread (headerRefusal bytes) (headerOf bytes) n (sym r ∙ e) in
       by-number _ _ (or-else first z (u .0)) (u .1)
 
   pub why-as : {h : Header} {reading : Reading} {direction : Direction} {left : Explanation} → first ≡ 0 → reading ≡ readOf bytes → reading ≡ Packet h
-      → direction ≡ directionIn cell plant h → left ≡ explained h direction → left ≡ whyOf rules settings cell plant time bytes before
+      → direction ≡ directionIn cell plant h → left ≡ explained h direction → left ≡ whyOf rules limits cell plant time bytes before
   unfolding whyOf readOf
   why-as {h} z r e d l =
       let u = was-read (headerRefusal bytes) (headerOf bytes) h (sym r ∙ e) in

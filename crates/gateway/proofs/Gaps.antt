@@ -10,7 +10,7 @@ use lib.ListN.{length}
 use borrow.Author.Tests.{le-ltb}
 use Rattle.laws.specs.Times.{times}
 use Rattle.laws.proofs.Times.{times-none, times-more}
-use Rattle.settings.specs.declared.Settings.{Settings}
+use Rattle.settings.specs.declared.Limits.{Limits}
 use Rattle.packet.specs.Header.{headerRefusal, headerOf}
 use Rattle.rulings.specs.declared.answers.Answer.{Answer}
 use Rattle.rulings.specs.declared.answers.Answer.the-variants as answer
@@ -24,16 +24,16 @@ use Rattle.gateway.specs.Calls.{State, After, numberOr, unlessRefused, t
 use Rattle.gateway.proofs.Refusals.{packet-kept}
 use Rattle.gateway.proofs.Jumps.{at, sizes-stay, clock-at, at-at, nextSecond}
 
-module _ (rules : Settings → Rules) (settings : Settings) (cell plant : List ℕ) (time : ℕ) (bytes : List ℕ) where
+module _ (rules : Rules) (limits : Limits) (cell plant : List ℕ) (time : ℕ) (bytes : List ℕ) where
   -- the packet at its time, from a state: its refusal, what it makes of the state if it has none, and what its call leaves
   abbrev pub refusalFrom : State → ℕ
-  refusalFrom s = packetRefusal settings cell plant time bytes s
+  refusalFrom s = packetRefusal limits cell plant time bytes s
 
   abbrev acceptedFrom : State → After Answer
-  acceptedFrom s = accepted rules settings (headerOf bytes) (directionIn cell plant (headerOf bytes)) time s
+  acceptedFrom s = accepted rules limits (headerOf bytes) (directionIn cell plant (headerOf bytes)) time s
 
   abbrev pub judgedFrom : State → After Answer
-  judgedFrom s = judged rules settings cell plant time bytes s
+  judgedFrom s = judged rules limits cell plant time bytes s
 
   -- two states between which the packet sees no difference
   record Alike (s later : State) : Type 0 where
@@ -48,67 +48,67 @@ module _ (rules : Settings → Rules) (settings : Settings) (cell plant : List �
 
   -- neither clock is after the packet's time
   same-early : (records tags counts clock later : ℕ) → clock ≤ time → later ≤ time
-      → earlyRefusal settings records tags counts cell plant later time ≡ earlyRefusal settings records tags counts cell plant clock time
+      → earlyRefusal limits records tags counts cell plant later time ≡ earlyRefusal limits records tags counts cell plant clock time
   unfolding earlyRefusal
   same-early records tags counts clock later h l = rw (le-ltb time later l, le-ltb time clock h)
 
   -- what the packet makes of the state at its time
   abbrev then : State → After Answer
-  then timed = record { answer = outcome .answer; state = record { tables = outcome .tables; clock = timed .clock } }
+  then timed = record { answer = outcome .answer; state = record { placing = timed .placing; tables = outcome .tables; clock = timed .clock } }
     where
       outcome : Outcome
-      outcome = byDirection rules settings (headerOf bytes) (directionIn cell plant (headerOf bytes)) (timed .tables)
+      outcome = byDirection rules (timed .placing) (headerOf bytes) (directionIn cell plant (headerOf bytes)) (timed .tables)
 
   -- a state, and the one at a moment up to the packet's time
-  onward-alike : (between : ℕ) (s : State) → s .clock ≤ between → between ≤ time → Alike s (at rules settings between s)
+  onward-alike : (between : ℕ) (s : State) → s .clock ≤ between → between ≤ time → Alike s (at rules limits between s)
   onward-alike between s h l =
       record {
         refusal = ap (λ (n : ℕ). numberOr n (headerRefusal bytes))
-            (sizes-stay rules settings (λ records tags counts. earlyRefusal settings records tags counts cell plant (at rules settings between s .clock) time) between s
-            ∙ same-early (length (s .tables .records)) (length (s .tables .tags)) (length (s .tables .counts)) (s .clock) (at rules settings between s .clock)
-            (omega arith) (omega (arith, clock-at rules settings between s h)));
-        outcome = λ z. ap then (at-at rules settings between time s h l);
+            (sizes-stay rules limits (λ records tags counts. earlyRefusal limits records tags counts cell plant (at rules limits between s .clock) time) between s
+            ∙ same-early (length (s .tables .records)) (length (s .tables .tags)) (length (s .tables .counts)) (s .clock) (at rules limits between s .clock)
+            (omega arith) (omega (arith, clock-at rules limits between s h)));
+        outcome = λ z. ap then (at-at rules limits between time s h l);
       }
 
   -- a call with a time alone, refused or not
-  passed-alike : (between : ℕ) (s : State) → between ≤ time → Alike s (passed rules settings between s .state)
+  passed-alike : (between : ℕ) (s : State) → between ≤ time → Alike s (passed rules limits between s .state)
   unfolding passed
-  passed-alike between s l = go (timeRefusalAt settings between s) refl
+  passed-alike between s l = go (timeRefusalAt limits between s) refl
     where
       after : After Reply
-      after = record { answer = Done; state = at rules settings between s }
+      after = record { answer = Done; state = at rules limits between s }
 
-      go : (n : ℕ) → timeRefusalAt settings between s ≡ n → Alike s (unlessRefused Refused n s after .state)
+      go : (n : ℕ) → timeRefusalAt limits between s ≡ n → Alike s (unlessRefused Refused n s after .state)
       go zero e =
           onward-alike between s
-          (time-in-order settings (length (s .tables .records)) (length (s .tables .tags)) (length (s .tables .counts)) (s .clock) between e) l
+          (time-in-order limits (length (s .tables .records)) (length (s .tables .tags)) (length (s .tables .counts)) (s .clock) between e) l
       go (suc n) e = alike-self s
 
   -- ---- a call for each second
   -- the clock is then at most so many seconds on
-  one-second : (s : State) → nextSecond rules settings s .clock ≤ suc (s .clock)
+  one-second : (s : State) → nextSecond rules limits s .clock ≤ suc (s .clock)
   unfolding passed
-  one-second s = go (timeRefusalAt settings (suc (s .clock)) s)
+  one-second s = go (timeRefusalAt limits (suc (s .clock)) s)
     where
       after : After Reply
-      after = record { answer = Done; state = at rules settings (suc (s .clock)) s }
+      after = record { answer = Done; state = at rules limits (suc (s .clock)) s }
 
       go : (n : ℕ) → unlessRefused Refused n s after .state .clock ≤ suc (s .clock)
-      go zero = omega (arith, clock-at rules settings (suc (s .clock)) s (omega arith))
+      go zero = omega (arith, clock-at rules limits (suc (s .clock)) s (omega arith))
       go (suc n) = omega arith
 
   abbrev pub afterSeconds : ℕ → State → State
-  afterSeconds gap s = times gap (nextSecond rules settings) s
+  afterSeconds gap s = times gap (nextSecond rules limits) s
 
   seconds : (gap : ℕ) (s : State) → afterSeconds gap s .clock ≤ s .clock + gap
-  seconds zero s = omega (arith, ap (λ (x : State). x .clock) (times-none (nextSecond rules settings) s))
+  seconds zero s = omega (arith, ap (λ (x : State). x .clock) (times-none (nextSecond rules limits) s))
   seconds (suc gap) s =
-      omega (arith, ap (λ (x : State). x .clock) (times-more (nextSecond rules settings) gap s), one-second (afterSeconds gap s), seconds gap s)
+      omega (arith, ap (λ (x : State). x .clock) (times-more (nextSecond rules limits) gap s), one-second (afterSeconds gap s), seconds gap s)
 
   seconds-alike : (gap : ℕ) (s : State) → s .clock + gap ≤ time → Alike s (afterSeconds gap s)
-  seconds-alike zero s l = subst (Alike s) (sym (times-none (nextSecond rules settings) s)) (alike-self s)
+  seconds-alike zero s l = subst (Alike s) (sym (times-none (nextSecond rules limits) s)) (alike-self s)
   seconds-alike (suc gap) s l =
-      subst (Alike s) (sym (times-more (nextSecond rules settings) gap s))
+      subst (Alike s) (sym (times-more (nextSecond rules limits) gap s))
       (and-then (seconds-alike gap s (omega arith)) (passed-alike (suc (afterSeconds gap s .clock)) (afterSeconds gap s) (omega (arith, seconds gap s))))
 
   -- ---- so the packet gets the same
@@ -127,10 +127,10 @@ module _ (rules : Settings → Rules) (settings : Settings) (cell plant : List �
         go (suc n) e = rw (a .refusal, e)
 
     kept-there : (refusalFrom s ≡ 0 → ⊥) → judgedFrom later .state ≡ later
-    kept-there ne = packet-kept settings time later rules cell plant bytes (λ z. ne (sym (a .refusal) ∙ z))
+    kept-there ne = packet-kept limits time later rules cell plant bytes (λ z. ne (sym (a .refusal) ∙ z))
 
   -- by way of any moment up to the packet's time
-  pub by-way-of : (between : ℕ) (s : State) → between ≤ time → refusalFrom s ≡ 0 → judgedFrom (passed rules settings between s .state) ≡ judgedFrom s
+  pub by-way-of : (between : ℕ) (s : State) → between ≤ time → refusalFrom s ≡ 0 → judgedFrom (passed rules limits between s .state) ≡ judgedFrom s
   by-way-of between s l = same-call (passed-alike between s l)
 
   -- demand 2: "Passing a gap in one jump leaves the same state as passing it second by second": the gap before a packet, up to its time or less
@@ -144,4 +144,4 @@ module _ (rules : Settings → Rules) (settings : Settings) (cell plant : List �
   -- one that is refused leaves the state that it came to, so that the two differ by what the calls with a time alone passed, and by that alone
   pub refused-leaves : (gap : ℕ) (s : State) → s .clock + gap ≤ time → (refusalFrom s ≡ 0 → ⊥)
       → (judgedFrom s .state ≡ s) × (judgedFrom (afterSeconds gap s) .state ≡ afterSeconds gap s)
-  refused-leaves gap s l ne = (packet-kept settings time s rules cell plant bytes ne, kept-there (seconds-alike gap s l) ne)
+  refused-leaves gap s l ne = (packet-kept limits time s rules cell plant bytes ne, kept-there (seconds-alike gap s l) ne)

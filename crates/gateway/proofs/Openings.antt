@@ -7,7 +7,7 @@ use mathlib.Core.Option.{some}
 use mathlib.Core.Path.{_≡_, refl}
 use Prim.Native.Nat.{ℕ}
 use lib.ListN.{length}
-use Rattle.settings.specs.declared.Settings.{Settings}
+use Rattle.settings.specs.declared.Limits.{Limits}
 use Rattle.packet.specs.declared.kinds.Kind.the-variants.{Opening}
 use Rattle.packet.specs.Header.{headerOf}
 use Rattle.packet.proofs.Flags.{Opens, opens}
@@ -34,20 +34,20 @@ opening-blocked : (marks : Marks) → verdictOf false true marks Opening ≡ Blo
 unfolding verdictOf
 opening-blocked marks = either-mark (marks .cell) (marks .plant)
 
-module _ (rules : Settings → Rules) (settings : Settings) (time : ℕ) (bytes : List ℕ) (before : State) where
+module _ (rules : Rules) (limits : Limits) (time : ℕ) (bytes : List ℕ) (before : State) where
   -- the tables as they stand at the packet's second, and where a packet from the cell is looked up in them
   abbrev pub tablesThen : Tables
-  tablesThen = onward (rules settings .point) settings time before .tables
+  tablesThen = onward (rules .point) limits time before .tables
 
   abbrev pub spotThen : Spot
-  spotThen = spotOf (rules settings) (settings .keys) (headerOf bytes) false (length (tablesThen .records)) (length (tablesThen .tags))
+  spotThen = spotOf (rules .slot) (before .placing) (headerOf bytes) false (length (tablesThen .records)) (length (tablesThen .tags))
 
   -- the machine that sends the packet is blocked by then
   abbrev pub BlockedThen : Type 0
-  BlockedThen = isBlocked (rules settings .threshold) (countMet spotThen tablesThen) ≡ true
+  BlockedThen = isBlocked (rules .threshold) (countMet spotThen tablesThen) ≡ true
 
-  pub opens-nothing : (cell plant : List ℕ) → packetRefusal settings cell plant time bytes before ≡ 0
+  pub opens-nothing : (cell plant : List ℕ) → packetRefusal limits cell plant time bytes before ≡ 0
       → directionIn cell plant (headerOf bytes) ≡ FromCell → Opens bytes → BlockedThen
-      → verdictTold (judged rules settings cell plant time bytes before .answer) ≡ some 6
+      → verdictTold (judged rules limits cell plant time bytes before .answer) ≡ some 6
   unfolding judged byDirection ours rulingOf
   opens-nothing cell plant accepted from-cell opening blocked = rw (accepted, from-cell, blocked, opens bytes opening, opening-blocked)

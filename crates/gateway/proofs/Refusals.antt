@@ -3,7 +3,9 @@
 use mathlib.Core.List.{List}
 use mathlib.Core.Path.{_≡_, refl}
 use Prim.Native.Nat.{ℕ, zero, suc}
+use Rattle.settings.specs.declared.Limits.{Limits}
 use Rattle.settings.specs.declared.Settings.{Settings}
+use Rattle.places.specs.declared.Placing.{Placing}
 use Rattle.packet.specs.declared.Header.{Header}
 use Rattle.sides.specs.declared.Direction.{Direction}
 use Rattle.sides.specs.declared.Direction.the-variants.{FromCell, FromPlant, NotOurs}
@@ -37,45 +39,46 @@ numbered before after done zero = done
 numbered before after done (suc n) = tt
 
 module _ (settings : Settings) (time : ℕ) (before : State) where
-  pub start-told : refusalIn (started settings time before .answer) ≡ startRefusalAt settings before
+  pub start-told : refusalIn (started settings time before .answer) ≡ startRefusalAt (settings .limits) before
   unfolding started
-  start-told = told refusalIn _ before _ (λ n. refl) refl (startRefusalAt settings before)
+  start-told = told refusalIn _ before _ (λ n. refl) refl (startRefusalAt (settings .limits) before)
 
-  pub start-kept : (startRefusalAt settings before ≡ 0 → ⊥) → started settings time before .state ≡ before
+  pub start-kept : (startRefusalAt (settings .limits) before ≡ 0 → ⊥) → started settings time before .state ≡ before
   unfolding started
-  start-kept = kept refusalIn _ before _ (startRefusalAt settings before)
+  start-kept = kept refusalIn _ before _ (startRefusalAt (settings .limits) before)
 
-  module _ (rules : Settings → Rules) where
-    pub time-told : refusalIn (passed rules settings time before .answer) ≡ timeRefusalAt settings time before
+module _ (limits : Limits) (time : ℕ) (before : State) where
+  module _ (rules : Rules) where
+    pub time-told : refusalIn (passed rules limits time before .answer) ≡ timeRefusalAt limits time before
     unfolding passed
-    time-told = told refusalIn _ before _ (λ n. refl) refl (timeRefusalAt settings time before)
+    time-told = told refusalIn _ before _ (λ n. refl) refl (timeRefusalAt limits time before)
 
-    pub time-kept : (timeRefusalAt settings time before ≡ 0 → ⊥) → passed rules settings time before .state ≡ before
+    pub time-kept : (timeRefusalAt limits time before ≡ 0 → ⊥) → passed rules limits time before .state ≡ before
     unfolding passed
-    time-kept = kept refusalIn _ before _ (timeRefusalAt settings time before)
+    time-kept = kept refusalIn _ before _ (timeRefusalAt limits time before)
 
     -- a packet that is accepted is told as no refusal
-    not-told : (h : Header) (direction : Direction) (tables : Tables) → refusalTold (byDirection rules settings h direction tables .answer) ≡ 0
+    not-told : (placing : Placing) (h : Header) (direction : Direction) (tables : Tables) → refusalTold (byDirection rules placing h direction tables .answer) ≡ 0
     unfolding byDirection ours
-    not-told h FromCell tables = refl
-    not-told h FromPlant tables = refl
-    not-told h NotOurs tables = refl
+    not-told placing h FromCell tables = refl
+    not-told placing h FromPlant tables = refl
+    not-told placing h NotOurs tables = refl
 
-    not-numbered : (h : Header) (direction : Direction) (tables : Tables) → Numbered (byDirection rules settings h direction tables .answer)
+    not-numbered : (placing : Placing) (h : Header) (direction : Direction) (tables : Tables) → Numbered (byDirection rules placing h direction tables .answer)
     unfolding byDirection ours
-    not-numbered h FromCell tables = tt
-    not-numbered h FromPlant tables = tt
-    not-numbered h NotOurs tables = tt
+    not-numbered placing h FromCell tables = tt
+    not-numbered placing h FromPlant tables = tt
+    not-numbered placing h NotOurs tables = tt
 
     module _ (cell plant bytes : List ℕ) where
-      pub packet-numbered : Numbered (judged rules settings cell plant time bytes before .answer)
+      pub packet-numbered : Numbered (judged rules limits cell plant time bytes before .answer)
       unfolding judged
-      packet-numbered = numbered before _ (not-numbered _ _ _) (packetRefusal settings cell plant time bytes before)
+      packet-numbered = numbered before _ (not-numbered _ _ _ _) (packetRefusal limits cell plant time bytes before)
 
-      pub packet-told : refusalTold (judged rules settings cell plant time bytes before .answer) ≡ packetRefusal settings cell plant time bytes before
+      pub packet-told : refusalTold (judged rules limits cell plant time bytes before .answer) ≡ packetRefusal limits cell plant time bytes before
       unfolding judged
-      packet-told = told refusalTold _ before _ (λ n. refl) (not-told _ _ _) (packetRefusal settings cell plant time bytes before)
+      packet-told = told refusalTold _ before _ (λ n. refl) (not-told _ _ _ _) (packetRefusal limits cell plant time bytes before)
 
-      pub packet-kept : (packetRefusal settings cell plant time bytes before ≡ 0 → ⊥) → judged rules settings cell plant time bytes before .state ≡ before
+      pub packet-kept : (packetRefusal limits cell plant time bytes before ≡ 0 → ⊥) → judged rules limits cell plant time bytes before .state ≡ before
       unfolding judged
-      packet-kept = kept refusalTold _ before _ (packetRefusal settings cell plant time bytes before)
+      packet-kept = kept refusalTold _ before _ (packetRefusal limits cell plant time bytes before)

@@ -9,8 +9,9 @@ use lib.IntN.{ℤ}
 use lib.ListN.{length, set}
 use lib.Pow.{pow-mono, pow-pos}
 use Rattle.laws.proofs.Tests.{true-is-not-false}
-use Rattle.settings.specs.declared.Settings.{Settings}
+use Rattle.settings.specs.declared.Limits.{Limits}
 use Rattle.packet.specs.declared.Header.{Header}
+use Rattle.places.specs.declared.Placing.{Placing}
 use Rattle.packet.specs.declared.Reading.{Reading}
 use Rattle.packet.specs.declared.Reading.the-variants.{Refused as Unread, Packet}
 use Rattle.packet.specs.Header.{headerRefusal, headerOf, answered, readOf, refusalOf}
@@ -21,17 +22,17 @@ use Rattle.entries.specs.declared.Replaced.{Replaced}
 use Rattle.entries.specs.Entries.{Written, writtenOf}
 use Rattle.tables.specs.Sizes.{badSizes}
 use Rattle.tables.proofs.Powers.{sized}
-use Rattle.tables.specs.Clock.{Timed, timedOf, timePassed}
+use Rattle.tables.specs.Clock.{Timed}
 use Rattle.rulings.specs.declared.Ruling.{Ruling}
 use Rattle.rulings.specs.declared.answers.Replacement.{Replacement}
 use Rattle.rulings.specs.declared.answers.Answer.{Answer}
 use Rattle.rulings.specs.declared.answers.Answer.the-variants.{Refused, NotOurs as NotOurs′, Judged}
-use Rattle.rulings.specs.Rules.{Rules, document01}
+use Rattle.rulings.specs.Rules.{Rules, slotRule}
 use Rattle.tables.specs.Tables.{Tables, tablesOf}
 use Rattle.refusals.specs.Refusals.{earlyRefusal}
 use Rattle.gateway.specs.declared.Spot.{Spot}
 use Rattle.gateway.specs.Packets.{Outcome, outcomeOf, replacementOf, entered, spotOf, rulingAt, settled, ours, directionIn, isOurs, isFromPlant, byDirection}
-use Rattle.gateway.specs.Calls.{State, After, numberOr, bySizes, unlessRefused, accepted, judged}
+use Rattle.gateway.specs.Calls.{State, After, numberOr, bySizes, unlessRefused, timed, accepted, judged}
 
 -- ---- refusals
 module _ {A : Type 0} (refused : ℕ → A) (before : State) (after : After A) where
@@ -46,16 +47,16 @@ module _ {A : Type 0} (refused : ℕ → A) (before : State) (after : After A) w
   not-refused (suc k) e z = absurd (omega arith)
 
 -- ---- a packet
-module _ (rules : Settings → Rules) (settings : Settings) (h : Header) (before : Tables) where
+module _ (rules : Rules) (placing : Placing) (h : Header) (before : Tables) where
   pub by-direction : (d : Direction) {found fromPlant : Bool} → found ≡ isOurs d → found ≡ true → fromPlant ≡ isFromPlant d
-      → ours rules settings h fromPlant before ≡ byDirection rules settings h d before
+      → ours rules placing h fromPlant before ≡ byDirection rules placing h d before
   unfolding byDirection
-  by-direction FromCell e t f = ap (λ (b : Bool). ours rules settings h b before) f
-  by-direction FromPlant e t f = ap (λ (b : Bool). ours rules settings h b before) f
+  by-direction FromCell e t f = ap (λ (b : Bool). ours rules placing h b before) f
+  by-direction FromPlant e t f = ap (λ (b : Bool). ours rules placing h b before) f
   by-direction NotOurs e t f = true-is-not-false t e
 
   pub not-ours : (d : Direction) {found : Bool} → found ≡ isOurs d → found ≡ false
-      → record { answer = NotOurs′; tables = before } ≡ byDirection rules settings h d before
+      → outcomeOf NotOurs′ before ≡ byDirection rules placing h d before
   unfolding byDirection
   not-ours FromCell e t = true-is-not-false e t
   not-ours FromPlant e t = true-is-not-false e t
@@ -64,31 +65,32 @@ module _ (rules : Settings → Rules) (settings : Settings) (h : Header) (before
 pub settled-as : (keys : List ℕ) (spot : Spot) (ruling : Ruling) (records tags : List ℕ) (counts : List ℤ) {replaced : Replaced} {replacement : Replacement} {tags′ : List ℕ} {counts′ : List ℤ}
     → writtenOf replaced tags′ counts′ ≡ entered (spot .place) ruling tags counts
     → replacement ≡ replacementOf keys (spot .lines) (spot .place .line) replaced
-    → outcomeOf (Judged (ruling .verdict) (ruling .count) replacement) (set records (spot .slot) (ruling .byte)) tags′ counts′
+    → outcomeOf (Judged (ruling .verdict) (ruling .count) replacement) (tablesOf (set records (spot .slot) (ruling .byte)) tags′ counts′)
     ≡ settled keys spot ruling (tablesOf records tags counts)
 settled-as keys spot ruling records tags counts {replaced} {replacement} {tags′} {counts′} w e =
-    ap (λ (a : Replacement). outcomeOf (Judged (ruling .verdict) (ruling .count) a) (set records (spot .slot) (ruling .byte)) tags′ counts′) e
-    ∙ ap (λ (x : Written). outcomeOf (Judged (ruling .verdict) (ruling .count) (replacementOf keys (spot .lines) (spot .place .line) (x .replaced))) (set records (spot .slot) (ruling .byte)) (x .tags) (x .counts)) w
+    ap (λ (a : Replacement). outcomeOf (Judged (ruling .verdict) (ruling .count) a) (tablesOf (set records (spot .slot) (ruling .byte)) tags′ counts′)) e
+    ∙ ap (λ (x : Written). outcomeOf (Judged (ruling .verdict) (ruling .count) (replacementOf keys (spot .lines) (spot .place .line) (x .replaced))) (tablesOf (set records (spot .slot) (ruling .byte)) (x .tags) (x .counts))) w
 
-pub ours-as : (rules : Settings → Rules) (settings : Settings) (h : Header) (fromPlant : Bool) (before : Tables) {spot : Spot} {ruling : Ruling} {left : Outcome}
-    → spot ≡ spotOf (rules settings) (settings .keys) h fromPlant (length (before .records)) (length (before .tags))
-    → ruling ≡ rulingAt (rules settings) h fromPlant spot before → left ≡ settled (settings .keys) spot ruling before
-    → left ≡ ours rules settings h fromPlant before
+pub ours-as : (rules : Rules) (placing : Placing) (h : Header) (fromPlant : Bool) (before : Tables) {spot : Spot} {ruling : Ruling} {left : Outcome}
+    → spot ≡ spotOf (rules .slot) placing h fromPlant (length (before .records)) (length (before .tags))
+    → ruling ≡ rulingAt rules h fromPlant spot before → left ≡ settled (placing .keys) spot ruling before
+    → left ≡ ours rules placing h fromPlant before
 unfolding ours
-ours-as rules settings h fromPlant before {spot} {ruling} p q e =
-    e ∙ ap (λ (r : Ruling). settled (settings .keys) spot r before) q
-    ∙ ap (λ (s : Spot). settled (settings .keys) s (rulingAt (rules settings) h fromPlant s before) before) p
+ours-as rules placing h fromPlant before {spot} {ruling} p q e =
+    e ∙ ap (λ (r : Ruling). settled (placing .keys) spot r before) q
+    ∙ ap (λ (s : Spot). settled (placing .keys) s (rulingAt rules h fromPlant s before) before) p
 
-pub accepted-as : (rules : Settings → Rules) (settings : Settings) (h : Header) (direction : Direction) (time : ℕ) (before : State) {timed : Timed} {left : Outcome}
-    → timed ≡ timePassed (rules settings .point) (settings .dmiss) (settings .dconn) time (timedOf (before .tables .records) (before .tables .counts) (before .clock))
-    → left ≡ byDirection rules settings h direction (tablesOf (timed .records) (before .tables .tags) (timed .counts))
-    → record { answer = left .answer; state = record { tables = left .tables; clock = timed .clock } } ≡ accepted rules settings h direction time before
-accepted-as rules settings h direction time before {timed} {left} t e =
-    ap (λ (l : Outcome). record { answer = l .answer; state = record { tables = l .tables; clock = timed .clock } }) e
-    ∙ ap (λ (x : Timed). went (byDirection rules settings h direction (tablesOf (x .records) (before .tables .tags) (x .counts))) (x .clock)) t
-  where
-    went : Outcome → ℕ → After Answer
-    went l clock = record { answer = l .answer; state = record { tables = l .tables; clock = clock } }
+-- what a packet leaves of a state, by what it leaves of the tables
+abbrev went : State → Outcome → ℕ → After Answer
+went before l clock = record { answer = l .answer; state = record { placing = before .placing; tables = l .tables; clock = clock } }
+
+pub accepted-as : (rules : Rules) (limits : Limits) (h : Header) (direction : Direction) (time : ℕ) (before : State) {changed : Timed} {left : Outcome}
+    → changed ≡ timed (rules .point) limits (before .clock) time (before .tables)
+    → left ≡ byDirection rules (before .placing) h direction (tablesOf (changed .records) (before .tables .tags) (changed .counts))
+    → went before left (changed .clock) ≡ accepted rules limits h direction time before
+accepted-as rules limits h direction time before {changed} e₁ e₂ =
+    ap (λ (l : Outcome). went before l (changed .clock)) e₂
+    ∙ ap (λ (x : Timed). went before (byDirection rules (before .placing) h direction (tablesOf (x .records) (before .tables .tags) (x .counts))) (x .clock)) e₁
 
 -- ---- sizes
 -- tables that are not refused fit the 32 bits in which they are looked up
@@ -102,9 +104,9 @@ sizes-within records tags counts e =
     (omega (arith, r .is, pow-pos (r .exponent)), omega (arith, r .is), omega (arith, l .is, s .four-each))
 
 -- the slot is one of the records
-pub slot-within : (settings : Settings) (h : Header) (fromPlant : Bool) (records tags : ℕ) {spot : Spot}
-    → spot ≡ spotOf (document01 settings) (settings .keys) h fromPlant records tags → 0 < records → spot .slot < records
-slot-within settings h fromPlant records tags e some = rw e (slot-lt (settings .keys) _ _ _ records some)
+pub slot-within : (placing : Placing) (h : Header) (fromPlant : Bool) (records tags : ℕ) {spot : Spot}
+    → spot ≡ spotOf slotRule placing h fromPlant records tags → 0 < records → spot .slot < records
+slot-within placing h fromPlant records tags e some = rw e (slot-lt (placing .keys) _ _ _ records some)
 
 -- ---- a packet's refusals
 abbrev isUnread : Reading → Bool
@@ -134,30 +136,30 @@ pub first-of-two : (first k : ℕ) {n : ℕ} → n ≡ first → (n ≡ 0 → �
 first-of-two zero k e ne = absurd (ne e)
 first-of-two (suc m) k e ne = e
 
-module _ (rules : Settings → Rules) (settings : Settings) (cell plant : List ℕ) (time : ℕ) (bytes : List ℕ) (before : State) where
+module _ (rules : Rules) (limits : Limits) (cell plant : List ℕ) (time : ℕ) (bytes : List ℕ) (before : State) where
   abbrev first : ℕ
-  first = bySizes (earlyRefusal settings) (before .tables) cell plant (before .clock) time
+  first = bySizes (earlyRefusal limits) (before .tables) cell plant (before .clock) time
 
   abbrev after : After Answer
-  after = accepted rules settings (headerOf bytes) (directionIn cell plant (headerOf bytes)) time before
+  after = accepted rules limits (headerOf bytes) (directionIn cell plant (headerOf bytes)) time before
 
-  pub refused-first : {n : ℕ} → n ≡ first → (n ≡ 0 → ⊥) → record { answer = Refused n; state = before } ≡ judged rules settings cell plant time bytes before
+  pub refused-first : {n : ℕ} → n ≡ first → (n ≡ 0 → ⊥) → record { answer = Refused n; state = before } ≡ judged rules limits cell plant time bytes before
   unfolding judged
   refused-first e ne = refused-by Refused before after _ (first-of-two first (headerRefusal bytes) e ne) ne
 
   pub refused-reading : {n : ℕ} {reading : Reading} → first ≡ 0 → reading ≡ readOf bytes → reading ≡ Unread n
-      → record { answer = Refused n; state = before } ≡ judged rules settings cell plant time bytes before
+      → record { answer = Refused n; state = before } ≡ judged rules limits cell plant time bytes before
   unfolding judged readOf
   refused-reading {n} z r e =
       let u = unread (headerRefusal bytes) (headerOf bytes) n (sym r ∙ e) in
       refused-by Refused before after _ (or-else first z (u .0)) (u .1)
 
   pub judged-as : {h : Header} {reading : Reading} {direction : Direction} {left : After Answer} → first ≡ 0 → reading ≡ readOf bytes → reading ≡ Packet h
-      → direction ≡ directionIn cell plant h → left ≡ accepted rules settings h direction time before
-      → left ≡ judged rules settings cell plant time bytes before
+      → direction ≡ directionIn cell plant h → left ≡ accepted rules limits h direction time before
+      → left ≡ judged rules limits cell plant time bytes before
   unfolding judged readOf
   judged-as {h} z r e d l =
       let u = was-read (headerRefusal bytes) (headerOf bytes) h (sym r ∙ e) in
-      l ∙ ap (λ (x : Direction). accepted rules settings h x time before) d
-      ∙ ap (λ (x : Header). accepted rules settings x (directionIn cell plant x) time before) (sym (u .1))
+      l ∙ ap (λ (x : Direction). accepted rules limits h x time before) d
+      ∙ ap (λ (x : Header). accepted rules limits x (directionIn cell plant x) time before) (sym (u .1))
       ∙ not-refused Refused before after _ (or-else first z (sym (u .0))) refl

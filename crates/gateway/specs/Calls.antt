@@ -4,10 +4,14 @@ use mathlib.Core.List.{List}
 use Prim.Native.Nat.{ℕ, zero, suc}
 use lib.IntN.{ℤ}
 use lib.ListN.{length}
+use denote.Ref.{RefT}
+use denote.Triple.Both.{Both}
+use Rattle.settings.specs.declared.Limits.{Limits}
 use Rattle.settings.specs.declared.Settings.{Settings}
 use Rattle.sides.specs.declared.Direction.{Direction}
 use Rattle.packet.specs.declared.Header.{Header}
 use Rattle.packet.specs.Header.{headerRefusal, headerOf}
+use Rattle.places.specs.declared.Placing.{Placing}
 use Rattle.tables.specs.Tables.{Tables, tablesOf}
 use Rattle.tables.specs.Clock.{Timed, timedOf, timePassed}
 use Rattle.rulings.specs.declared.answers.Answer.{Answer}
@@ -19,21 +23,33 @@ use Rattle.gateway.specs.declared.Reply.{Reply}
 use Rattle.gateway.specs.declared.Reply.the-variants.{Refused, Done}
 use Rattle.gateway.specs.Packets.{Outcome, directionIn, byDirection}
 
--- a gateway's state: its tables and its clock
+-- A gateway's state: what places packets in its tables, the tables, and the clock. It runs on the keys that stand here, and not on those of
+-- its settings.
 pub record State : Type 0 where
+  pub placing : Placing
   pub tables : Tables
   pub clock : ℕ
 
-abbrev pub stateOf : List ℕ → List ℕ → List ℤ → ℕ → State
-stateOf records tags counts clock = record { tables = tablesOf records tags counts; clock = clock }
+abbrev pub stateOf : Placing → List ℕ → List ℕ → List ℤ → ℕ → State
+stateOf placing records tags counts clock = record { placing = placing; tables = tablesOf records tags counts; clock = clock }
 
 -- what a call leaves: its answer, and the state
 pub record After (A : Type 0) : Type 0 where
   pub answer : A
   pub state : State
 
-abbrev pub afterOf : {A : Type 0} → A → List ℕ → List ℕ → List ℤ → ℕ → After A
-afterOf answer records tags counts clock = record { answer = answer; state = stateOf records tags counts clock }
+-- what a call is lent, at its entry and at its exit, beside what places packets: the state before it, and what it leaves
+module _ (placing : Placing) (records tags : Both (RefT (List ℕ)) (RefT (List ℕ))) (counts : Both (RefT (List ℤ)) (RefT (List ℤ)))
+    (clock : Both (RefT ℕ) (RefT ℕ)) where
+  abbrev pub lent : State
+  lent = stateOf placing (records .entry .now) (tags .entry .now) (counts .entry .now) (clock .entry .now)
+
+  abbrev pub left : {A : Type 0} → A → After A
+  left answer =
+      record {
+        answer = answer;
+        state = stateOf placing (records .exit .now) (tags .exit .now) (counts .exit .now) (clock .exit .now);
+      }
 
 -- ---- refusals
 -- a number, or where it is 0 another
@@ -56,54 +72,72 @@ refusalIn (Refused number) = number
 refusalIn Done = 0
 
 -- ---- a cold start
-abbrev pub startRefusalAt : Settings → State → ℕ
-startRefusalAt settings before = bySizes (startRefusal settings) (before .tables)
+abbrev pub startRefusalAt : Limits → State → ℕ
+startRefusalAt limits before = bySizes (startRefusal limits) (before .tables)
+
+-- the settings' keys, which no other call looks at
+abbrev pub coldPlacing : Settings → Placing
+coldPlacing settings = record { keys = settings .keys }
 
 -- it "sets the clock"
-abbrev pub coldState : ℕ → State → State
-coldState time before = record { tables = coldTables (before .tables); clock = time }
+abbrev pub coldState : Settings → ℕ → State → State
+coldState settings time before = record { placing = coldPlacing settings; tables = coldTables (before .tables); clock = time }
 
 unfoldable pub started : Settings → ℕ → State → After Reply
 started settings time before =
-    unlessRefused Refused (startRefusalAt settings before) before (record { answer = Done; state = coldState time before })
+    unlessRefused Refused (startRefusalAt (settings .limits) before) before
+    (record { answer = Done; state = coldState settings time before })
 
 -- ---- a time alone
-abbrev pub timeRefusalAt : Settings → ℕ → State → ℕ
-timeRefusalAt settings time before = bySizes (timeRefusal settings) (before .tables) (before .clock) time
+abbrev pub timeRefusalAt : Limits → ℕ → State → ℕ
+timeRefusalAt limits time before = bySizes (timeRefusal limits) (before .tables) (before .clock) time
 
--- the state at a new time, by the size of a point: what the clock does to records and counts. It leaves the tags.
-abbrev pub onward : ℕ → Settings → ℕ → State → State
-onward point settings time before = stateOf (timed .records) (before .tables .tags) (timed .counts) (timed .clock)
-  where
-    timed : Timed
-    timed =
-        timePassed point (settings .dmiss) (settings .dconn) time (timedOf (before .tables .records) (before .tables .counts) (before .clock))
+-- what the clock does to records and counts where it goes on to a time, by the size of a point
+abbrev pub timed : ℕ → Limits → ℕ → ℕ → Tables → Timed
+timed point limits clock time tables = timePassed point (limits .dmiss) (limits .dconn) time (timedOf (tables .records) (tables .counts) clock)
 
-unfoldable pub passed : (Settings → Rules) → Settings → ℕ → State → After Reply
-passed rules settings time before =
-    unlessRefused Refused (timeRefusalAt settings time before) before
-    (record { answer = Done; state = onward (rules settings .point) settings time before })
+-- the tables at that time: it leaves the tags
+abbrev pub tablesAt : ℕ → Limits → ℕ → ℕ → Tables → Tables
+tablesAt point limits clock time tables =
+    tablesOf (timed point limits clock time tables .records) (tables .tags) (timed point limits clock time tables .counts)
+
+-- the state at that time
+abbrev pub onward : ℕ → Limits → ℕ → State → State
+onward point limits time before =
+    record {
+      placing = before .placing;
+      tables = tablesAt point limits (before .clock) time (before .tables);
+      clock = timed point limits (before .clock) time (before .tables) .clock;
+    }
+
+unfoldable pub passed : Rules → Limits → ℕ → State → After Reply
+passed rules limits time before =
+    unlessRefused Refused (timeRefusalAt limits time before) before
+    (record { answer = Done; state = onward (rules .point) limits time before })
 
 -- ---- a packet
 -- the numbers 1 to 4 first, "but header tests have their own order"
-abbrev pub packetRefusal : Settings → List ℕ → List ℕ → ℕ → List ℕ → State → ℕ
-packetRefusal settings cell plant time bytes before =
+abbrev pub packetRefusal : Limits → List ℕ → List ℕ → ℕ → List ℕ → State → ℕ
+packetRefusal limits cell plant time bytes before =
     numberOr
-    (bySizes (earlyRefusal settings) (before .tables) cell plant (before .clock) time)
+    (bySizes (earlyRefusal limits) (before .tables) cell plant (before .clock) time)
     (headerRefusal bytes)
 
 -- "Clock, before every packet that isn't refused, ours or not": then what the packet, by its headers and direction, makes of the tables
-abbrev pub accepted : (Settings → Rules) → Settings → Header → Direction → ℕ → State → After Answer
-accepted rules settings h direction time before =
-    record { answer = outcome .answer; state = record { tables = outcome .tables; clock = timed .clock } }
+abbrev pub accepted : Rules → Limits → Header → Direction → ℕ → State → After Answer
+accepted rules limits h direction time before =
+    record {
+      answer = outcome .answer;
+      state = record { placing = before .placing; tables = outcome .tables; clock = timed .clock };
+    }
   where
     timed : State
-    timed = onward (rules settings .point) settings time before
+    timed = onward (rules .point) limits time before
 
     outcome : Outcome
-    outcome = byDirection rules settings h direction (timed .tables)
+    outcome = byDirection rules (before .placing) h direction (timed .tables)
 
-unfoldable pub judged : (Settings → Rules) → Settings → List ℕ → List ℕ → ℕ → List ℕ → State → After Answer
-judged rules settings cell plant time bytes before =
-    unlessRefused answer.Refused (packetRefusal settings cell plant time bytes before) before
-    (accepted rules settings (headerOf bytes) (directionIn cell plant (headerOf bytes)) time before)
+unfoldable pub judged : Rules → Limits → List ℕ → List ℕ → ℕ → List ℕ → State → After Answer
+judged rules limits cell plant time bytes before =
+    unlessRefused answer.Refused (packetRefusal limits cell plant time bytes before) before
+    (accepted rules limits (headerOf bytes) (directionIn cell plant (headerOf bytes)) time before)

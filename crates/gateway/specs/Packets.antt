@@ -5,12 +5,12 @@ use mathlib.Core.List.{List}
 use Prim.Native.Nat.{ℕ, _/_}
 use lib.IntN.{ℤ}
 use lib.ListN.{length, getD, set}
-use Rattle.settings.specs.declared.Settings.{Settings}
 use Rattle.packet.specs.declared.Header.{Header}
 use Rattle.sides.specs.declared.Direction.{Direction}
 use Rattle.sides.specs.declared.Direction.the-variants.{FromCell, FromPlant, NotOurs}
 use Rattle.sides.specs.Lists.{directionBetween}
 use Rattle.places.specs.declared.Place.{Place}
+use Rattle.places.specs.declared.Placing.{Placing}
 use Rattle.places.specs.Places.{placeOf, addressOf}
 use Rattle.entries.specs.declared.Replaced.{Replaced}
 use Rattle.entries.specs.declared.Replaced.the-variants.{Nothing, Tag}
@@ -30,15 +30,19 @@ pub record Outcome : Type 0 where
   pub answer : Answer
   pub tables : Tables
 
-abbrev pub outcomeOf : Answer → List ℕ → List ℕ → List ℤ → Outcome
-outcomeOf answer records tags counts = record { answer = answer; tables = tablesOf records tags counts }
+abbrev pub outcomeOf : Answer → Tables → Outcome
+outcomeOf answer tables = record { answer = answer; tables = tables }
 
 -- ---- a packet of ours, from the plant or from the cell
--- where it is looked up: its slot among so many records, and its cell address's place among the lines of so many tags, "four entries
+-- where it is looked up: its slot by a slot rule among so many records, and its cell address's place among the lines of so many tags, "four entries
 -- each"
-abbrev pub spotOf : Rules → List ℕ → Header → Bool → ℕ → ℕ → Spot
-spotOf rules keys h fromPlant records tags =
-    record { slot = rules .slot keys h fromPlant records; lines = tags / 4; place = placeOf keys (cellOf h fromPlant) (tags / 4) }
+abbrev pub spotOf : (Placing → Header → Bool → ℕ → ℕ) → Placing → Header → Bool → ℕ → ℕ → Spot
+spotOf slot placing h fromPlant records tags =
+    record {
+      slot = slot placing h fromPlant records;
+      lines = tags / 4;
+      place = placeOf (placing .keys) (cellOf h fromPlant) (tags / 4);
+    }
 
 -- what it meets there: a record, and its cell address's count
 abbrev pub recordMet : Spot → Tables → ℕ
@@ -67,18 +71,16 @@ abbrev pub settled : List ℕ → Spot → Ruling → Tables → Outcome
 settled keys spot ruling before =
     outcomeOf
     (answer.Judged (ruling .verdict) (ruling .count) (replacementOf keys (spot .lines) (spot .place .line) (after .replaced)))
-    (set (before .records) (spot .slot) (ruling .byte))
-    (after .tags)
-    (after .counts)
+    (tablesOf (set (before .records) (spot .slot) (ruling .byte)) (after .tags) (after .counts))
   where
     after : Written
     after = entered (spot .place) ruling (before .tags) (before .counts)
 
-unfoldable pub ours : (Settings → Rules) → Settings → Header → Bool → Tables → Outcome
-ours rules settings h fromPlant before = settled (settings .keys) spot (rulingAt (rules settings) h fromPlant spot before) before
+unfoldable pub ours : Rules → Placing → Header → Bool → Tables → Outcome
+ours rules placing h fromPlant before = settled (placing .keys) spot (rulingAt rules h fromPlant spot before) before
   where
     spot : Spot
-    spot = spotOf (rules settings) (settings .keys) h fromPlant (length (before .records)) (length (before .tags))
+    spot = spotOf (rules .slot) placing h fromPlant (length (before .records)) (length (before .tags))
 
 -- ---- any packet, by both side lists
 abbrev pub directionIn : List ℕ → List ℕ → Header → Direction
@@ -96,7 +98,7 @@ isFromPlant FromPlant = true
 isFromPlant NotOurs = false
 
 -- "0 not ours": it touches no table
-unfoldable pub byDirection : (Settings → Rules) → Settings → Header → Direction → Tables → Outcome
-byDirection rules settings h FromCell before = ours rules settings h false before
-byDirection rules settings h FromPlant before = ours rules settings h true before
-byDirection rules settings h NotOurs before = record { answer = answer.NotOurs; tables = before }
+unfoldable pub byDirection : Rules → Placing → Header → Direction → Tables → Outcome
+byDirection rules placing h FromCell before = ours rules placing h false before
+byDirection rules placing h FromPlant before = ours rules placing h true before
+byDirection rules placing h NotOurs before = outcomeOf answer.NotOurs before

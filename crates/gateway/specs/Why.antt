@@ -5,12 +5,13 @@ use mathlib.Core.Bool.{Bool, true, false, cond}
 use mathlib.Core.List.{List}
 use Prim.Native.Nat.{ℕ, zero, suc}
 use lib.ListN.{length}
-use Rattle.settings.specs.declared.Settings.{Settings}
+use Rattle.settings.specs.declared.Limits.{Limits}
 use Rattle.packet.specs.declared.Header.{Header}
 use Rattle.packet.specs.Header.{headerOf}
 use Rattle.sides.specs.declared.Direction.{Direction}
 use Rattle.sides.specs.declared.Direction.the-variants.{FromCell, FromPlant, NotOurs}
 use Rattle.sides.specs.Lists.{decidingEntry}
+use Rattle.places.specs.declared.Placing.{Placing}
 use Rattle.records.specs.Records.{marksOf, plantSeen, cellSeen}
 use Rattle.tables.specs.Tables.{Tables}
 use Rattle.verdicts.specs.declared.Verdict.{Verdict}
@@ -55,15 +56,15 @@ whyMet rules cell plant h fromPlant met =
     verdict : Verdict
     verdict = verdictBy rules h fromPlant (met .byte) (met .count)
 
-unfoldable pub whyOurs : (Settings → Rules) → Settings → List ℕ → List ℕ → Header → Bool → Tables → Explanation
-whyOurs rules settings cell plant h fromPlant tables =
-    whyMet (rules settings) cell plant h fromPlant
-    (metIn (spotOf (rules settings) (settings .keys) h fromPlant (length (tables .records)) (length (tables .tags))) tables)
+unfoldable pub whyOurs : Rules → Placing → List ℕ → List ℕ → Header → Bool → Tables → Explanation
+whyOurs rules placing cell plant h fromPlant tables =
+    whyMet rules cell plant h fromPlant
+    (metIn (spotOf (rules .slot) placing h fromPlant (length (tables .records)) (length (tables .tags))) tables)
 
-unfoldable pub whyByDirection : (Settings → Rules) → Settings → List ℕ → List ℕ → Header → Direction → Tables → Explanation
-whyByDirection rules settings cell plant h FromCell tables = whyOurs rules settings cell plant h false tables
-whyByDirection rules settings cell plant h FromPlant tables = whyOurs rules settings cell plant h true tables
-whyByDirection rules settings cell plant h NotOurs tables = explanation.NotOurs
+unfoldable pub whyByDirection : Rules → Placing → List ℕ → List ℕ → Header → Direction → Tables → Explanation
+whyByDirection rules placing cell plant h FromCell tables = whyOurs rules placing cell plant h false tables
+whyByDirection rules placing cell plant h FromPlant tables = whyOurs rules placing cell plant h true tables
+whyByDirection rules placing cell plant h NotOurs tables = explanation.NotOurs
 
 -- "It is refused exactly as the packet would be."
 abbrev pub unlessRefusedBy : ℕ → Explanation → Explanation
@@ -71,8 +72,8 @@ unlessRefusedBy zero why = why
 unlessRefusedBy (suc n) why = explanation.Refused (suc n)
 
 -- "The tool judges by the tables as they would stand at the packet's second and leaves them untouched."
-unfoldable pub whyOf : (Settings → Rules) → Settings → List ℕ → List ℕ → ℕ → List ℕ → State → Explanation
-whyOf rules settings cell plant time bytes before =
-    unlessRefusedBy (packetRefusal settings cell plant time bytes before)
-    (whyByDirection rules settings cell plant (headerOf bytes) (directionIn cell plant (headerOf bytes))
-    (onward (rules settings .point) settings time before .tables))
+unfoldable pub whyOf : Rules → Limits → List ℕ → List ℕ → ℕ → List ℕ → State → Explanation
+whyOf rules limits cell plant time bytes before =
+    unlessRefusedBy (packetRefusal limits cell plant time bytes before)
+    (whyByDirection rules (before .placing) cell plant (headerOf bytes) (directionIn cell plant (headerOf bytes))
+    (onward (rules .point) limits time before .tables))

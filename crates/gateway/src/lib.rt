@@ -4,25 +4,25 @@ ghost use mathlib.Core.Bool.{false};
 ghost use mathlib.Core.Path.{_≡_};
 ghost use Prim.Native.Nat.{_<_, _≤_};
 ghost use lib.ListN.{length};
-ghost use Rattle.packet.specs.Kinds.{portOf};
-ghost use Rattle.places.specs.Places.{slotOf};
 ghost use Rattle.sides.specs.Lists.{decidingEntry};
 ghost use Rattle.entries.specs.Entries.{writtenOf};
 ghost use Rattle.tables.specs.Sizes.{badSizes};
-ghost use Rattle.rulings.specs.Rules.{cellOf, plantOf, document01};
-ghost use Rattle.tables.specs.Tables.{tablesOf};
+ghost use Rattle.rulings.specs.Rules.{cellOf, plantOf, slotRule, rulesOf};
+ghost use Rattle.tables.specs.Tables.{lentTables, leftTables};
 ghost use Rattle.gateway.specs.Packets.{outcomeOf, replacementOf, entered, spotOf, rulingAt, settled, ours, isOurs, isFromPlant, byDirection};
-ghost use Rattle.gateway.specs.Calls.{afterOf, stateOf, onward, started, passed, accepted, judged};
+ghost use Rattle.gateway.specs.Calls.{lent, left, coldPlacing, tablesAt, started, passed, accepted, judged};
 ghost use Rattle.gateway.specs.Why.{metIn, dropOf, whyMet, whyOurs, whyByDirection, whyOf};
 use entries::Replaced;
 use packet::Header;
 use packet::Reading;
 use places::Place;
+use places::Placing;
 use reasons::Drop;
 use reasons::Explanation;
 use rulings::Ruling;
 use rulings::answers::Answer;
 use rulings::answers::Replacement;
+use settings::Limits;
 use settings::Settings;
 use sides::Direction;
 use sides::Entry;
@@ -34,11 +34,17 @@ pub enum Reply {
     Done,
 }
 
+// What a start answers: its refusal, or that it is done; and what places packets in the tables, which every later call takes.
+pub struct Started {
+    pub reply: Reply,
+    pub placing: Placing,
+}
+
 // Counts are in points: each multiple of Dmiss that is passed takes one.
 const POINT: u8 = 1;
 
 // Starts cold: every record and tag 0, every count -32,768, and the clock at the time. Answers refusal 1 or 2, and then nothing is changed,
-// or that it is done.
+// or that it is done; and beside either the settings' keys, on which the gateway then runs where it is done.
 pub fn cold_start(
     set: Settings,
     records: &mut [u8],
@@ -46,37 +52,57 @@ pub fn cold_start(
     counts: &mut [i16],
     clock: &mut u32,
     time: u32,
-) -> Reply
-    ensures { λ r. ⌜ afterOf r (now (records .exit)) (now (tags .exit)) (now (counts .exit)) (now (clock .exit))
-        ≡ started set time (stateOf (now (records .entry)) (now (tags .entry)) (now (counts .entry)) (now (clock .entry))) ⌝ }
+) -> Started
+    ensures { λ r. ⌜ left (r .placing) records tags counts clock (r .reply)
+        ≡ started set time (lent (coldPlacing set) records tags counts clock) ⌝ }
 {
-    let number = refusals::of_start(set, records.len(), tags.len(), counts.len());
+    let keys = set.keys;
+    let placing = Placing { keys };
+    let number = refusals::of_start(set.limits, records.len(), tags.len(), counts.len());
     if number != 0 {
-        return Reply::Refused(number);
+        let reply = Reply::Refused(number);
+        return Started { reply, placing };
     }
     cold::fill(records, tags, counts);
     *clock = time;
-    Reply::Done
+    let reply = Reply::Done;
+    Started { reply, placing }
 }
 
 // Passes a time, with no packet: records age, counts decay and the clock moves. Answers refusal 1, 2 or 4, and then nothing is changed, or
 // that it is done.
 pub fn pass(
-    set: Settings,
+    limits: Limits,
+    placing: Placing,
     records: &mut [u8],
     tags: &mut [u32],
     counts: &mut [i16],
     clock: &mut u32,
     time: u32,
 ) -> Reply
-    ensures { λ r. ⌜ afterOf r (now (records .exit)) (now (tags .exit)) (now (counts .exit)) (now (clock .exit))
-        ≡ passed document01 set time (stateOf (now (records .entry)) (now (tags .entry)) (now (counts .entry)) (now (clock .entry))) ⌝ }
+    ensures { λ r. ⌜ left placing records tags counts clock r
+        ≡ passed (rulesOf limits) limits time (lent placing records tags counts clock) ⌝ }
 {
-    let number = refusals::of_time(set, records.len(), tags.len(), counts.len(), *clock, time);
+    let number = refusals::of_time(
+        limits,
+        records.len(),
+        tags.len(),
+        counts.len(),
+        *clock,
+        time,
+    );
     if number != 0 {
         return Reply::Refused(number);
     }
-    tables::clock::pass(records, counts, clock, time, POINT, set.dmiss, set.dconn);
+    tables::clock::pass(
+        records,
+        counts,
+        clock,
+        time,
+        POINT,
+        limits.dmiss,
+        limits.dconn,
+    );
     Reply::Done
 }
 
@@ -110,30 +136,36 @@ fn plant_of(header: Header, from_plant: bool) -> u32
 }
 
 // The slot of a packet of ours among a number of records.
-fn slot_of(keys: &[u32; 8], header: Header, from_plant: bool, records: u32) -> u32
-    ensures { λ r. ⌜ r ≡ slotOf (now (keys .entry)) (plantOf header «from_plant») (cellOf header «from_plant») (portOf header «from_plant») records ⌝ }
+fn slot_of(placing: Placing, header: Header, from_plant: bool, records: u32) -> u32
+    ensures { λ r. ⌜ r ≡ slotRule placing header «from_plant» records ⌝ }
 {
     let plant = plant_of(header, from_plant);
     let cell = cell_of(header, from_plant);
-    places::slot(keys, plant, cell, header.port(from_plant) as u32, records)
+    places::slot(
+        &placing.keys,
+        plant,
+        cell,
+        header.port(from_plant) as u32,
+        records,
+    )
 }
 
 // Where a packet of ours is looked up in tables of these lengths.
-fn spot_of(set: Settings, header: Header, from_plant: bool, records: usize, tags: usize) -> Spot
+fn spot_of(placing: Placing, header: Header, from_plant: bool, records: usize, tags: usize) -> Spot
     requires { ⌜ (records ≤ 1048576) × (tags ≤ 1048576) ⌝ }
-    ensures { λ r. ⌜ r ≡ spotOf (document01 set) (set .keys) header «from_plant» records tags ⌝ }
+    ensures { λ r. ⌜ r ≡ spotOf slotRule placing header «from_plant» records tags ⌝ }
 {
     let lines = (tags / 4) as u32;
     Spot {
-        slot: slot_of(&set.keys, header, from_plant, records as u32) as usize,
+        slot: slot_of(placing, header, from_plant, records as u32) as usize,
         lines,
-        place: places::place_of(&set.keys, cell_of(header, from_plant), lines),
+        place: places::place_of(&placing.keys, cell_of(header, from_plant), lines),
     }
 }
 
 // The ruling on a packet of ours, by the record and the count where it is looked up.
 fn ruling_at(
-    set: Settings,
+    limits: Limits,
     header: Header,
     from_plant: bool,
     spot: Spot,
@@ -142,11 +174,11 @@ fn ruling_at(
     counts: &[i16],
 ) -> Ruling
     requires { ⌜ spot .slot < length (now records) ⌝ }
-    ensures { λ r. ⌜ r ≡ rulingAt (document01 set) header «from_plant» spot (tablesOf (now (records .entry)) (now (tags .entry)) (now (counts .entry))) ⌝ }
+    ensures { λ r. ⌜ r ≡ rulingAt (rulesOf limits) header «from_plant» spot (lentTables records tags counts) ⌝ }
 {
     let slot = spot.slot;
     let count = entries::count_of(tags, counts, spot.place.line, spot.place.tag);
-    rulings::ruling_of(set, header, from_plant, records[slot], count)
+    rulings::ruling_of(limits, header, from_plant, records[slot], count)
 }
 
 // Writes the cell address's entry where the ruling says so.
@@ -175,7 +207,7 @@ fn replacement_of(keys: &[u32; 8], lines: u32, line: u32, replaced: Replaced) ->
 
 // Writes what a ruling makes of the tables, and answers it.
 fn settle(
-    set: Settings,
+    placing: Placing,
     spot: Spot,
     ruling: Ruling,
     records: &mut [u8],
@@ -183,8 +215,8 @@ fn settle(
     counts: &mut [i16],
 ) -> Answer
     requires { ⌜ spot .slot < length (now records) ⌝ }
-    ensures { λ r. ⌜ outcomeOf r (now (records .exit)) (now (tags .exit)) (now (counts .exit))
-        ≡ settled (set .keys) spot ruling (tablesOf (now (records .entry)) (now (tags .entry)) (now (counts .entry))) ⌝ }
+    ensures { λ r. ⌜ outcomeOf r (leftTables records tags counts)
+        ≡ settled (placing .keys) spot ruling (lentTables records tags counts) ⌝ }
 {
     let slot = spot.slot;
     let verdict = ruling.verdict;
@@ -193,13 +225,14 @@ fn settle(
     Answer::Judged {
         verdict,
         count: ruling.count,
-        replaced: replacement_of(&set.keys, spot.lines, spot.place.line, replaced),
+        replaced: replacement_of(&placing.keys, spot.lines, spot.place.line, replaced),
     }
 }
 
 // Judges a packet of ours.
 fn judge_ours(
-    set: Settings,
+    limits: Limits,
+    placing: Placing,
     header: Header,
     from_plant: bool,
     records: &mut [u8],
@@ -207,12 +240,12 @@ fn judge_ours(
     counts: &mut [i16],
 ) -> Answer
     requires { ⌜ badSizes (length (now records)) (length (now tags)) (length (now counts)) ≡ false ⌝ }
-    ensures { λ r. ⌜ outcomeOf r (now (records .exit)) (now (tags .exit)) (now (counts .exit))
-        ≡ ours document01 set header «from_plant» (tablesOf (now (records .entry)) (now (tags .entry)) (now (counts .entry))) ⌝ }
+    ensures { λ r. ⌜ outcomeOf r (leftTables records tags counts)
+        ≡ ours (rulesOf limits) placing header «from_plant» (lentTables records tags counts) ⌝ }
 {
-    let spot = spot_of(set, header, from_plant, records.len(), tags.len());
-    let ruling = ruling_at(set, header, from_plant, spot, records, tags, counts);
-    settle(set, spot, ruling, records, tags, counts)
+    let spot = spot_of(placing, header, from_plant, records.len(), tags.len());
+    let ruling = ruling_at(limits, header, from_plant, spot, records, tags, counts);
+    settle(placing, spot, ruling, records, tags, counts)
 }
 
 // Whether a packet of this direction is ours.
@@ -238,9 +271,10 @@ fn is_from_plant(direction: Direction) -> bool
 }
 
 // Judges a packet by its direction. One that is not ours touches no table. Packets of both directions go by one call, so that the
-// compiler makes one piece of it all and the settings are not copied for it.
+// compiler makes one piece of it all and the keys are not copied for it.
 fn judge_by_direction(
-    set: Settings,
+    limits: Limits,
+    placing: Placing,
     header: Header,
     direction: Direction,
     records: &mut [u8],
@@ -248,19 +282,20 @@ fn judge_by_direction(
     counts: &mut [i16],
 ) -> Answer
     requires { ⌜ badSizes (length (now records)) (length (now tags)) (length (now counts)) ≡ false ⌝ }
-    ensures { λ r. ⌜ outcomeOf r (now (records .exit)) (now (tags .exit)) (now (counts .exit))
-        ≡ byDirection document01 set header direction (tablesOf (now (records .entry)) (now (tags .entry)) (now (counts .entry))) ⌝ }
+    ensures { λ r. ⌜ outcomeOf r (leftTables records tags counts)
+        ≡ byDirection (rulesOf limits) placing header direction (lentTables records tags counts) ⌝ }
 {
     if is_ours(direction) {
         let from_plant = is_from_plant(direction);
-        return judge_ours(set, header, from_plant, records, tags, counts);
+        return judge_ours(limits, placing, header, from_plant, records, tags, counts);
     }
     Answer::NotOurs
 }
 
 // Passes the time, and then judges a packet whose headers are read.
 fn accept(
-    set: Settings,
+    limits: Limits,
+    placing: Placing,
     header: Header,
     direction: Direction,
     records: &mut [u8],
@@ -270,17 +305,26 @@ fn accept(
     time: u32,
 ) -> Answer
     requires { ⌜ badSizes (length (now records)) (length (now tags)) (length (now counts)) ≡ false ⌝ }
-    ensures { λ r. ⌜ afterOf r (now (records .exit)) (now (tags .exit)) (now (counts .exit)) (now (clock .exit))
-        ≡ accepted document01 set header direction time (stateOf (now (records .entry)) (now (tags .entry)) (now (counts .entry)) (now (clock .entry))) ⌝ }
+    ensures { λ r. ⌜ left placing records tags counts clock r
+        ≡ accepted (rulesOf limits) limits header direction time (lent placing records tags counts clock) ⌝ }
 {
-    tables::clock::pass(records, counts, clock, time, POINT, set.dmiss, set.dconn);
-    judge_by_direction(set, header, direction, records, tags, counts)
+    tables::clock::pass(
+        records,
+        counts,
+        clock,
+        time,
+        POINT,
+        limits.dmiss,
+        limits.dconn,
+    );
+    judge_by_direction(limits, placing, header, direction, records, tags, counts)
 }
 
 // Judges a packet that comes at a time, and brings tables and clock up to it. Answers a refusal, 1 to 6, and then nothing is changed, or
 // the verdict with the count and the replaced address.
 pub fn judge(
-    set: Settings,
+    limits: Limits,
+    placing: Placing,
     cell: &[u8],
     plant: &[u8],
     records: &mut [u8],
@@ -290,12 +334,11 @@ pub fn judge(
     time: u32,
     packet: &[u8],
 ) -> Answer
-    ensures { λ r. ⌜ afterOf r (now (records .exit)) (now (tags .exit)) (now (counts .exit)) (now (clock .exit))
-        ≡ judged document01 set (now (cell .entry)) (now (plant .entry)) time (now (packet .entry))
-        (stateOf (now (records .entry)) (now (tags .entry)) (now (counts .entry)) (now (clock .entry))) ⌝ }
+    ensures { λ r. ⌜ left placing records tags counts clock r
+        ≡ judged (rulesOf limits) limits (now (cell .entry)) (now (plant .entry)) time (now (packet .entry)) (lent placing records tags counts clock) ⌝ }
 {
     let number = refusals::of_packet(
-        set,
+        limits,
         records.len(),
         tags.len(),
         counts.len(),
@@ -313,7 +356,17 @@ pub fn judge(
             let source = header.source;
             let destination = header.destination;
             let direction = sides::direction_between(cell, plant, source, destination);
-            accept(set, header, direction, records, tags, counts, clock, time)
+            accept(
+                limits,
+                placing,
+                header,
+                direction,
+                records,
+                tags,
+                counts,
+                clock,
+                time,
+            )
         }
     }
 }
@@ -327,7 +380,7 @@ struct Met {
 // What a packet of ours would meet at a time: one record aged and one count decayed as the clock would do it. No other is looked at but
 // those of its line.
 fn met_at(
-    set: Settings,
+    limits: Limits,
     spot: Spot,
     records: &[u8],
     tags: &[u32],
@@ -336,14 +389,14 @@ fn met_at(
     time: u32,
 ) -> Met
     requires { ⌜ spot .slot < length (now records) ⌝ }
-    ensures { λ r. ⌜ r ≡ metIn spot (onward 1 set time (stateOf (now (records .entry)) (now (tags .entry)) (now (counts .entry)) clock) .tables) ⌝ }
+    ensures { λ r. ⌜ r ≡ metIn spot (tablesAt 1 limits clock time (lentTables records tags counts)) ⌝ }
 {
     let slot = spot.slot;
     let minutes = tables::clock::multiples_passed(60, clock, time);
-    let multiples = tables::clock::multiples_passed(set.dmiss as u32, clock, time);
+    let multiples = tables::clock::multiples_passed(limits.dmiss as u32, clock, time);
     let count = entries::count_of(tags, counts, spot.place.line, spot.place.tag);
     Met {
-        byte: records::aged(records[slot], minutes, set.dconn),
+        byte: records::aged(records[slot], minutes, limits.dconn),
         count: counts::decayed(count, multiples as u64 * POINT as u64),
     }
 }
@@ -358,14 +411,14 @@ fn deciding_entry<'a>(cell: &'a [u8], plant: &'a [u8], address: u32) -> Entry
 
 // A packet that is dropped with a verdict: what it met, which facts would have had it forwarded, and the entries that made it ours.
 fn drop_of<'a>(
-    set: Settings,
+    limits: Limits,
     cell: &'a [u8],
     plant: &'a [u8],
     header: Header,
     verdict: Verdict,
     met: Met,
 ) -> Drop
-    ensures { λ r. ⌜ r ≡ dropOf (document01 set) (now (cell .entry)) (now (plant .entry)) header verdict met ⌝ }
+    ensures { λ r. ⌜ r ≡ dropOf (rulesOf limits) (now (cell .entry)) (now (plant .entry)) header verdict met ⌝ }
 {
     let transport = header.transport;
     let kind = transport.kind;
@@ -377,8 +430,8 @@ fn drop_of<'a>(
         header,
         count: met.count,
         marks,
-        threshold: set.threshold,
-        reported: reasons::report(set.threshold, met.count, marks, kind),
+        threshold: limits.threshold,
+        reported: reasons::report(limits.threshold, met.count, marks, kind),
         cell_entry,
         plant_entry,
     }
@@ -386,29 +439,30 @@ fn drop_of<'a>(
 
 // Explains a packet of ours by what it meets.
 fn explain_met<'a>(
-    set: Settings,
+    limits: Limits,
     cell: &'a [u8],
     plant: &'a [u8],
     header: Header,
     from_plant: bool,
     met: Met,
 ) -> Explanation
-    ensures { λ r. ⌜ r ≡ whyMet (document01 set) (now (cell .entry)) (now (plant .entry)) header «from_plant» met ⌝ }
+    ensures { λ r. ⌜ r ≡ whyMet (rulesOf limits) (now (cell .entry)) (now (plant .entry)) header «from_plant» met ⌝ }
 {
     let transport = header.transport;
     let kind = transport.kind;
-    let blocked = counts::is_blocked(met.count, set.threshold);
+    let blocked = counts::is_blocked(met.count, limits.threshold);
     let marks = records::marks_of(met.byte);
     let verdict = verdicts::verdict_of(from_plant, blocked, marks, kind);
     if verdicts::is_dropped(verdict) {
-        return Explanation::Dropped(drop_of(set, cell, plant, header, verdict, met));
+        return Explanation::Dropped(drop_of(limits, cell, plant, header, verdict, met));
     }
     Explanation::Forwarded(verdict)
 }
 
 // Explains a packet of ours, at a time.
 fn explain_ours<'a>(
-    set: Settings,
+    limits: Limits,
+    placing: Placing,
     cell: &'a [u8],
     plant: &'a [u8],
     header: Header,
@@ -420,17 +474,18 @@ fn explain_ours<'a>(
     time: u32,
 ) -> Explanation
     requires { ⌜ badSizes (length (now records)) (length (now tags)) (length (now counts)) ≡ false ⌝ }
-    ensures { λ r. ⌜ r ≡ whyOurs document01 set (now (cell .entry)) (now (plant .entry)) header «from_plant»
-        (onward 1 set time (stateOf (now (records .entry)) (now (tags .entry)) (now (counts .entry)) clock) .tables) ⌝ }
+    ensures { λ r. ⌜ r ≡ whyOurs (rulesOf limits) placing (now (cell .entry)) (now (plant .entry)) header «from_plant»
+        (tablesAt 1 limits clock time (lentTables records tags counts)) ⌝ }
 {
-    let spot = spot_of(set, header, from_plant, records.len(), tags.len());
-    let met = met_at(set, spot, records, tags, counts, clock, time);
-    explain_met(set, cell, plant, header, from_plant, met)
+    let spot = spot_of(placing, header, from_plant, records.len(), tags.len());
+    let met = met_at(limits, spot, records, tags, counts, clock, time);
+    explain_met(limits, cell, plant, header, from_plant, met)
 }
 
 // Explains a packet by its direction, at a time.
 fn explain_by_direction<'a>(
-    set: Settings,
+    limits: Limits,
+    placing: Placing,
     cell: &'a [u8],
     plant: &'a [u8],
     header: Header,
@@ -442,13 +497,14 @@ fn explain_by_direction<'a>(
     time: u32,
 ) -> Explanation
     requires { ⌜ badSizes (length (now records)) (length (now tags)) (length (now counts)) ≡ false ⌝ }
-    ensures { λ r. ⌜ r ≡ whyByDirection document01 set (now (cell .entry)) (now (plant .entry)) header direction
-        (onward 1 set time (stateOf (now (records .entry)) (now (tags .entry)) (now (counts .entry)) clock) .tables) ⌝ }
+    ensures { λ r. ⌜ r ≡ whyByDirection (rulesOf limits) placing (now (cell .entry)) (now (plant .entry)) header direction
+        (tablesAt 1 limits clock time (lentTables records tags counts)) ⌝ }
 {
     if is_ours(direction) {
         let of_plant = is_from_plant(direction);
         return explain_ours(
-            set,
+            limits,
+            placing,
             cell,
             plant,
             header,
@@ -467,7 +523,8 @@ fn explain_by_direction<'a>(
 // lists that decided, the count and T. Answers the refusal that the packet would get, or the verdict alone where it is not dropped. Tables,
 // clock and lists are only read, and no table is swept or copied.
 pub fn why<'a>(
-    set: Settings,
+    limits: Limits,
+    placing: Placing,
     cell: &'a [u8],
     plant: &'a [u8],
     records: &[u8],
@@ -477,12 +534,11 @@ pub fn why<'a>(
     time: u32,
     packet: &[u8],
 ) -> Explanation
-    ensures { λ r. ⌜ r ≡ whyOf document01 set (now (cell .entry)) (now (plant .entry)) time (now (packet .entry))
-        (stateOf (now (records .entry)) (now (tags .entry)) (now (counts .entry)) (now (clock .entry))) ⌝ }
+    ensures { λ r. ⌜ r ≡ whyOf (rulesOf limits) limits (now (cell .entry)) (now (plant .entry)) time (now (packet .entry)) (lent placing records tags counts clock) ⌝ }
 {
     let at = *clock;
     let number = refusals::of_packet(
-        set,
+        limits,
         records.len(),
         tags.len(),
         counts.len(),
@@ -501,7 +557,8 @@ pub fn why<'a>(
             let to = header.destination;
             let direction = sides::direction_between(cell, plant, from, to);
             explain_by_direction(
-                set,
+                limits,
+                placing,
                 cell,
                 plant,
                 header,

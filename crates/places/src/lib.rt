@@ -2,6 +2,14 @@
 ghost use mathlib.Core.Path.{_≡_};
 ghost use Rattle.places.specs.Places.{slotOf, placeOf, addressOf};
 
+// What places packets in a gateway's tables: it is part of the gateway's state, a start sets it, and no other call changes it. Laid out as C
+// does, for the programs that link the gateway.
+#[repr(C)]
+pub struct Placing {
+    // The eight round keys of the address permutation.
+    pub keys: [u32; 8],
+}
+
 // The slot of a connection among a number of records; among none, the word itself. Any word may stand in the port's place.
 pub fn slot(keys: &[u32; 8], plant: u32, cell: u32, port: u32, records: u32) -> u32
     ensures { λ r. ⌜ r ≡ slotOf (now (keys .entry)) plant cell port records ⌝ }

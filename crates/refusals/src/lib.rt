@@ -1,13 +1,13 @@
 // The refusals 1 to 4: which number a call gives before any header is looked at, or 0.
 ghost use mathlib.Core.Path.{_≡_};
 ghost use Rattle.refusals.specs.Refusals.{startRefusal, timeRefusal, earlyRefusal};
-use settings::Settings;
+use settings::Limits;
 
 // The refusal of a cold start: 1, 2, or 0 for none.
-pub fn of_start(set: Settings, records: usize, tags: usize, counts: usize) -> u8
-    ensures { λ r. ⌜ r ≡ startRefusal set records tags counts ⌝ }
+pub fn of_start(limits: Limits, records: usize, tags: usize, counts: usize) -> u8
+    ensures { λ r. ⌜ r ≡ startRefusal limits records tags counts ⌝ }
 {
-    if set.is_bad() {
+    if limits.is_bad() {
         return 1;
     }
     if tables::sizes::bad_sizes(records, tags, counts) {
@@ -18,16 +18,16 @@ pub fn of_start(set: Settings, records: usize, tags: usize, counts: usize) -> u8
 
 // The refusal of a time alone: 1, 2, 4, or 0 for none.
 pub fn of_time(
-    set: Settings,
+    limits: Limits,
     records: usize,
     tags: usize,
     counts: usize,
     clock: u32,
     time: u32,
 ) -> u8
-    ensures { λ r. ⌜ r ≡ timeRefusal set records tags counts clock time ⌝ }
+    ensures { λ r. ⌜ r ≡ timeRefusal limits records tags counts clock time ⌝ }
 {
-    let number = of_start(set, records, tags, counts);
+    let number = of_start(limits, records, tags, counts);
     if number != 0 {
         return number;
     }
@@ -39,7 +39,7 @@ pub fn of_time(
 
 // The refusal of a packet before its headers are looked at: 1 to 4, or 0 for none.
 pub fn of_packet(
-    set: Settings,
+    limits: Limits,
     records: usize,
     tags: usize,
     counts: usize,
@@ -48,9 +48,9 @@ pub fn of_packet(
     clock: u32,
     time: u32,
 ) -> u8
-    ensures { λ r. ⌜ r ≡ earlyRefusal set records tags counts (now (cell .entry)) (now (plant .entry)) clock time ⌝ }
+    ensures { λ r. ⌜ r ≡ earlyRefusal limits records tags counts (now (cell .entry)) (now (plant .entry)) clock time ⌝ }
 {
-    let early = of_start(set, records, tags, counts);
+    let early = of_start(limits, records, tags, counts);
     if early != 0 {
         return early;
     }

@@ -6,14 +6,14 @@ use mathlib.Core.Path.{_≡_, refl, sym, ap, _∙_}
 use Prim.Native.Nat.{ℕ}
 use lib.IntN.{ℤ}
 use Rattle.laws.proofs.Tests.{true-is-not-false}
-use Rattle.settings.specs.declared.Settings.{Settings}
+use Rattle.settings.specs.declared.Limits.{Limits}
 use Rattle.packet.specs.declared.Header.{Header}
 use Rattle.records.specs.Records.{marksOf, isUnmarked}
 use Rattle.verdicts.proofs.Slips.{drop-leaves-the-record}
 use Rattle.rulings.proofs.Steps.{no-attempt}
 use Rattle.verdicts.specs.declared.Verdict.{Verdict}
 use Rattle.verdicts.specs.declared.Verdict.the-variants.{Uncounted, CreditOfOne, CreditOfTwo, FreshContact, Hygiene, Blocked}
-use Rattle.rulings.specs.Rules.{document01}
+use Rattle.rulings.specs.Rules.{rulesOf}
 use Rattle.rulings.specs.Rulings.{countWritten, countedBy, rulingOf}
 use Rattle.verdicts.specs.Verdicts.{isForwarded}
 
@@ -33,10 +33,10 @@ none-written : (floor : ℤ) (cold : Bool) (verdict : Verdict) (count : ℤ) →
 none-written floor cold verdict count d =
     ap (λ (a : Option ℤ). countWritten floor 1 1 a verdict count) (sym (no-attempt cold)) ∙ drop-writes floor 1 1 verdict count d
 
-pub drop-writes-nothing : (set : Settings) (h : Header) (fromPlant : Bool) (byte : ℕ) (count : ℤ)
-    → let r = rulingOf (document01 set) h fromPlant byte count in
+pub drop-writes-nothing : (limits : Limits) (h : Header) (fromPlant : Bool) (byte : ℕ) (count : ℤ)
+    → let r = rulingOf (rulesOf limits) h fromPlant byte count in
     isForwarded (r .verdict) ≡ false → (r .byte ≡ byte) × (r .writes ≡ false) × (r .count ≡ count)
 unfolding rulingOf
-drop-writes-nothing set h fromPlant byte count d =
-    let n = none-written (set .floor) (isUnmarked (marksOf byte)) _ count d in
+drop-writes-nothing limits h fromPlant byte count d =
+    let n = none-written (limits .floor) (isUnmarked (marksOf byte)) _ count d in
     (drop-leaves-the-record fromPlant _ _ byte d, ap (λ (a : Option ℤ). countedBy count a .writes) n, ap (λ (a : Option ℤ). countedBy count a .count) n)

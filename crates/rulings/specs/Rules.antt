@@ -1,14 +1,14 @@
--- What a run's rules are made of, and document 01's own. The gateway's step is defined over any such rules.
+-- What the rules of a gateway are made of, and its own, by what they depend on. The gateway's step is defined over any rules.
 -- Assumes nothing.
 use mathlib.Core.Bool.{Bool, cond}
-use mathlib.Core.List.{List}
 use mathlib.Core.Option.{Option, none}
 use Prim.Native.Nat.{ℕ}
 use lib.IntN.{ℤ}
 use Rattle.packet.specs.declared.Header.{Header}
 use Rattle.packet.specs.Kinds.{portOf}
+use Rattle.places.specs.declared.Placing.{Placing}
 use Rattle.places.specs.Places.{slotOf}
-use Rattle.settings.specs.declared.Settings.{Settings}
+use Rattle.settings.specs.declared.Limits.{Limits}
 
 -- the two ends of a packet of ours, by whether it comes from the plant
 abbrev pub cellOf : Header → Bool → ℕ
@@ -27,18 +27,21 @@ pub record Rules : Type 0 where
   pub weight : Header → ℕ
   -- the count that an attempt, dropped as blocked on a slot with neither mark, writes over this one, if it writes
   pub attempt : Header → ℤ → Option ℤ
-  -- the slot of a packet of ours by the keys, among so many records
-  pub slot : List ℕ → Header → Bool → ℕ → ℕ
+  -- the slot of a packet of ours by what places packets in the state's tables, among so many records
+  pub slot : Placing → Header → Bool → ℕ → ℕ
 
--- Document 01's rules, by the settings: counts are in points; "count+1 for 4"; "Dropped packets alter neither table"; a slot is that of
--- plant address, cell address and port.
-abbrev pub document01 : Settings → Rules
-document01 set =
+-- The slot rule: that of plant address, cell address and port.
+abbrev pub slotRule : Placing → Header → Bool → ℕ → ℕ
+slotRule placing h fromPlant records = slotOf (placing .keys) (plantOf h fromPlant) (cellOf h fromPlant) (portOf h fromPlant) records
+
+-- The rules of a gateway with these limits. By document 01 counts are in points; "count+1 for 4"; "Dropped packets alter neither table".
+abbrev pub rulesOf : Limits → Rules
+rulesOf limits =
     record {
-      threshold = set .threshold;
-      floor = set .floor;
+      threshold = limits .threshold;
+      floor = limits .floor;
       point = 1;
       weight = λ h. 1;
       attempt = λ h count. none;
-      slot = λ keys h fromPlant records. slotOf keys (plantOf h fromPlant) (cellOf h fromPlant) (portOf h fromPlant) records;
+      slot = slotRule;
     }

@@ -1,13 +1,11 @@
 // The settings of a gateway: their factory values, and refusal 1.
 ghost use mathlib.Core.Path.{_≡_};
-ghost use Rattle.settings.specs.Settings.{factorySettings, badSettings};
+ghost use Rattle.settings.specs.Settings.{factorySettings, withThreshold, badLimits};
 
-// The type of each number is wider than its range, so that a value outside it can be given, and is refused. Laid out as C does, for the
-// programs that link the gateway; the keys come first, so that a copy of them is an aligned one.
+// The settings that have a range, which every call of a gateway takes. The type of each number is wider than its range, so that a value
+// outside it can be given, and is refused. Laid out as C does, for the programs that link the gateway.
 #[repr(C)]
-pub struct Settings {
-    // The eight round keys of the address permutation.
-    pub keys: [u32; 8],
+pub struct Limits {
     // T: a cell address is blocked when its count is at least this.
     pub threshold: u16,
     // Cmin: no credit lowers a count below this.
@@ -16,6 +14,15 @@ pub struct Settings {
     pub dmiss: u16,
     // Dconn: a connection record lives over so many minute boundaries.
     pub dconn: u8,
+}
+
+// All settings of a gateway. The keys are free, and a cold start alone takes them: from then on the gateway runs on those of its state. They
+// come first, so that a copy of them is an aligned one.
+#[repr(C)]
+pub struct Settings {
+    // The eight round keys of the address permutation.
+    pub keys: [u32; 8],
+    pub limits: Limits,
 }
 
 impl Settings {
@@ -31,23 +38,36 @@ impl Settings {
     // The factory settings, with keys all zero.
     pub fn factory() -> Settings
         ensures values { λ r. ⌜ r ≡ factorySettings ⌝ }
-        ensures threshold { λ r. do ⌜ (← ⟦Settings::T⟧ .entry) ≡ r .threshold ⌝ }
-        ensures floor { λ r. do ⌜ (← ⟦Settings::CMIN⟧ .entry) ≡ r .floor ⌝ }
-        ensures dmiss { λ r. do ⌜ (← ⟦Settings::DMISS⟧ .entry) ≡ r .dmiss ⌝ }
-        ensures dconn { λ r. do ⌜ (← ⟦Settings::DCONN⟧ .entry) ≡ r .dconn ⌝ }
+        ensures threshold { λ r. do ⌜ (← ⟦Settings::T⟧ .entry) ≡ r .limits .threshold ⌝ }
+        ensures floor { λ r. do ⌜ (← ⟦Settings::CMIN⟧ .entry) ≡ r .limits .floor ⌝ }
+        ensures dmiss { λ r. do ⌜ (← ⟦Settings::DMISS⟧ .entry) ≡ r .limits .dmiss ⌝ }
+        ensures dconn { λ r. do ⌜ (← ⟦Settings::DCONN⟧ .entry) ≡ r .limits .dconn ⌝ }
     {
         Settings {
-            threshold: Self::T,
-            floor: Self::CMIN,
-            dmiss: Self::DMISS,
-            dconn: Self::DCONN,
             keys: [0; 8],
+            limits: Limits {
+                threshold: Self::T,
+                floor: Self::CMIN,
+                dmiss: Self::DMISS,
+                dconn: Self::DCONN,
+            },
         }
     }
 
+    // The same settings with another T.
+    pub fn with_threshold(self, threshold: u16) -> Settings
+        ensures { λ r. ⌜ r ≡ withThreshold threshold self ⌝ }
+    {
+        let mut set = self;
+        set.limits.threshold = threshold;
+        set
+    }
+}
+
+impl Limits {
     // Refusal 1: whether a setting is outside its range.
     pub fn is_bad(self) -> bool
-        ensures { λ r. ⌜ r ≡ badSettings self ⌝ }
+        ensures { λ r. ⌜ r ≡ badLimits self ⌝ }
     {
         let threshold = self.threshold;
         let floor = self.floor;

@@ -4,7 +4,7 @@ use denote.Ref.{now}
 use borrow.Author.Needs.{needs}
 use Rattle.gateway.proofs.Steps.{accepted-as}
 use Rattle.gateway.specs.Calls.{stateOf}
-use Rattle.rulings.specs.Rules.{document01}
+use Rattle.rulings.specs.Rules.{rulesOf}
 use Rattle.gateway.proofs.accept.Statement.{statement}
 use Rattle.gateway.proofs.accept.Tie as tie
 
@@ -28,8 +28,8 @@ same-length-3 c = search needs
 returns : tie.Need-returns
 returns c =
     let s = c .before .before .before .before .before .before .before .before .before .before .before .before .before .before .before .before .before .before in
-    accepted-as document01 (s .args .set) (s .args .header) (s .args .direction) (s .args .time)
-    (stateOf (now (s .args .records)) (now (s .args .tags)) (now (s .args .counts)) (now (s .args .clock)))
+    accepted-as (rulesOf (s .args .limits)) (s .args .limits) (s .args .header) (s .args .direction) (s .args .time)
+    (stateOf (s .args .placing) (now (s .args .records)) (now (s .args .tags)) (now (s .args .counts)) (now (s .args .clock)))
     (c .before .before .before .before .before .before .before .before .before .before .before .before .pass .ensures) (c .before .before .before .before .before .judge-by-direction .ensures)
 
 pub accept-spec : {M : Type 1} → statement M

@@ -4,7 +4,7 @@ use denote.Ref.{now}
 use mir.Syntax.{w16}
 use mir.ValLaws.{toZ-ofZ}
 use borrow.Author.Needs.{needs}
-use Rattle.rulings.specs.Rules.{document01}
+use Rattle.rulings.specs.Rules.{rulesOf}
 use Rattle.gateway.proofs.Explained.{drop-as}
 use Rattle.gateway.proofs.drop_of.Statement.{statement}
 use Rattle.gateway.proofs.drop_of.Tie as tie
@@ -29,7 +29,7 @@ returns c =
     let s = m .before .before .before .before in
     let count = toZ-ofZ w16 (s .args .met .count) (record { sfits = r .before .struct-told .given .1 .0 .1 }) in
     rw count
-    (drop-as (document01 (s .args .set)) (now (s .args .cell)) (now (s .args .plant)) (s .args .header) (s .args .verdict) (s .args .met)
+    (drop-as (rulesOf (s .args .limits)) (now (s .args .cell)) (now (s .args .plant)) (s .args .header) (s .args .verdict) (s .args .met)
     (m .marks-of .ensures) (p .before .deciding-entry .ensures) (p .deciding-entry2 .ensures) (rw count at (r .report .ensures)))
 
 pub drop-of-spec : {M : Type 1} → statement M

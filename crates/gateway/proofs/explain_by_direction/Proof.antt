@@ -3,8 +3,9 @@
 use mathlib.Core.Path.{_∙_}
 use denote.Ref.{now}
 use borrow.Author.Needs.{needs}
-use Rattle.rulings.specs.Rules.{document01}
-use Rattle.gateway.specs.Calls.{stateOf, onward}
+use Rattle.tables.specs.Tables.{tablesOf}
+use Rattle.rulings.specs.Rules.{rulesOf}
+use Rattle.gateway.specs.Calls.{tablesAt}
 use Rattle.gateway.proofs.Explained.{why-of-ours, why-not-ours}
 use Rattle.gateway.proofs.explain_by_direction.Statement.{statement}
 use Rattle.gateway.proofs.explain_by_direction.Tie as tie
@@ -23,15 +24,15 @@ returns c =
     let i = c .before .before in
     let s = i .before .before .before .before .before .before in
     c .explain-ours .ensures
-    ∙ why-of-ours document01 (s .args .set) (now (s .args .cell)) (now (s .args .plant)) (s .args .header)
-    (onward 1 (s .args .set) (s .args .time) (stateOf (now (s .args .records)) (now (s .args .tags)) (now (s .args .counts)) (s .args .clock)) .tables)
+    ∙ why-of-ours (rulesOf (s .args .limits)) (s .args .placing) (now (s .args .cell)) (now (s .args .plant)) (s .args .header)
+    (tablesAt 1 (s .args .limits) (s .args .clock) (s .args .time) (tablesOf (now (s .args .records)) (now (s .args .tags)) (now (s .args .counts))))
     (s .args .direction) (i .before .is-ours .ensures) (i .if1 .taken) (c .before .is-from-plant .ensures)
 
 returns-2 : tie.Need-returns-2
 returns-2 c =
     let s = c .before .before .before .before .before .before in
-    why-not-ours document01 (s .args .set) (now (s .args .cell)) (now (s .args .plant)) (s .args .header)
-    (onward 1 (s .args .set) (s .args .time) (stateOf (now (s .args .records)) (now (s .args .tags)) (now (s .args .counts)) (s .args .clock)) .tables)
+    why-not-ours (rulesOf (s .args .limits)) (s .args .placing) (now (s .args .cell)) (now (s .args .plant)) (s .args .header)
+    (tablesAt 1 (s .args .limits) (s .args .clock) (s .args .time) (tablesOf (now (s .args .records)) (now (s .args .tags)) (now (s .args .counts))))
     (s .args .direction) (c .before .is-ours .ensures) (c .if1 .left)
 
 pub explain-by-direction-spec : {M : Type 1} → statement M

@@ -4,7 +4,7 @@ use mir.Syntax.{w16}
 use mir.ValLaws.{toZ-ofZ}
 use denote.Ref.{now}
 use borrow.Author.Needs.{needs}
-use Rattle.rulings.specs.Rules.{document01}
+use Rattle.rulings.specs.Rules.{rulesOf}
 use Rattle.gateway.proofs.Explained.{verdict-as, why-dropped, why-forwarded}
 use Rattle.gateway.proofs.explain_met.Statement.{statement}
 use Rattle.gateway.proofs.explain_met.Tie as tie
@@ -30,7 +30,7 @@ returns c =
     let v = d .before in
     let b = v .before .before in
     let s = b .before .before .before .before .before in
-    let rules = document01 (s .args .set) in
+    let rules = rulesOf (s .args .limits) in
     let verdict = verdict-as rules (now (s .args .cell)) (now (s .args .plant)) (s .args .header) (s .args .from-plant) (s .args .met)
     (rw (toZ-ofZ w16 _ (record { sfits = b .before .struct-told .given .1 .0 .1 })) at (b .is-blocked .ensures)) (v .before .marks-of .ensures) (v .verdict-of .ensures) in
     why-dropped rules (now (s .args .cell)) (now (s .args .plant)) (s .args .header) (s .args .from-plant) (s .args .met)
@@ -41,7 +41,7 @@ returns-2 c =
     let v = c .before .before in
     let b = v .before .before in
     let s = b .before .before .before .before .before in
-    let rules = document01 (s .args .set) in
+    let rules = rulesOf (s .args .limits) in
     let verdict = verdict-as rules (now (s .args .cell)) (now (s .args .plant)) (s .args .header) (s .args .from-plant) (s .args .met)
     (rw (toZ-ofZ w16 _ (record { sfits = b .before .struct-told .given .1 .0 .1 })) at (b .is-blocked .ensures)) (v .before .marks-of .ensures) (v .verdict-of .ensures) in
     why-forwarded rules (now (s .args .cell)) (now (s .args .plant)) (s .args .header) (s .args .from-plant) (s .args .met)

@@ -15,7 +15,7 @@ spot-of-requires c κs =
 met-at-requires : tie.Need-met-at-requires
 met-at-requires c κs =
     let s = c .before .before .before .before .before in
-    slot-within (s .args .set) (s .args .header) (s .args .from-plant) _ _ (c .spot-of .ensures) (sizes-within _ _ _ (s .pre) .0)
+    slot-within (s .args .placing) (s .args .header) (s .args .from-plant) _ _ (c .spot-of .ensures) (sizes-within _ _ _ (s .pre) .0)
 
 explain-met-requires : tie.Need-explain-met-requires
 explain-met-requires c κs = search needs
@@ -24,8 +24,8 @@ returns : tie.Need-returns
 returns c =
     let at = c .before .before in
     let s = at .before .before .before .before .before in
-    why-ours (s .args .set) (s .args .time) (now (s .args .records)) (now (s .args .tags)) (now (s .args .counts)) (s .args .clock)
-    (now (s .args .cell)) (now (s .args .plant)) (s .args .header) (s .args .from-plant)
+    why-ours (s .args .limits) (s .args .time) (now (s .args .records)) (now (s .args .tags)) (now (s .args .counts)) (s .args .clock)
+    (s .args .placing) (now (s .args .cell)) (now (s .args .plant)) (s .args .header) (s .args .from-plant)
     (at .spot-of .ensures) (c .before .met-at .ensures) (c .explain-met .ensures)
 
 pub explain-ours-spec : {M : Type 1} → statement M

@@ -6,7 +6,7 @@ use borrow.Author.Needs.{needs}
 use Rattle.gateway.proofs.Steps.{refused-first, refused-reading, judged-as}
 use Rattle.gateway.specs.Calls.{stateOf}
 use Rattle.refusals.proofs.Tests.{good-sizes}
-use Rattle.rulings.specs.Rules.{document01}
+use Rattle.rulings.specs.Rules.{rulesOf}
 use Rattle.gateway.proofs.judge.Statement.{statement}
 use Rattle.gateway.proofs.judge.Tie as tie
 
@@ -16,8 +16,8 @@ of-packet-requires c κs = search needs
 returns : tie.Need-returns
 returns c =
     let s = c .before .before .before .before .before .before .before .before in
-    refused-first document01 (s .args .set) (now (s .args .cell)) (now (s .args .plant)) (s .args .time) (now (s .args .packet))
-    (stateOf (now (s .args .records)) (now (s .args .tags)) (now (s .args .counts)) (now (s .args .clock)))
+    refused-first (rulesOf (s .args .limits)) (s .args .limits) (now (s .args .cell)) (now (s .args .plant)) (s .args .time) (now (s .args .packet))
+    (stateOf (s .args .placing) (now (s .args .records)) (now (s .args .tags)) (now (s .args .counts)) (now (s .args .clock)))
     (c .before .of-packet .ensures) (c .if1 .taken)
 
 read-requires : tie.Need-read-requires
@@ -35,14 +35,14 @@ direction-between-requires c κs = search needs
 accept-requires : tie.Need-accept-requires
 accept-requires c κs =
     let s = c .before .before .before .before .before .before .before .before .before .before .before .before .before .before .before .before .before in
-    good-sizes (s .args .set) _ _ _ (now (s .args .cell)) (now (s .args .plant)) (now (s .args .clock)) (s .args .time)
+    good-sizes (s .args .limits) _ _ _ (now (s .args .cell)) (now (s .args .plant)) (now (s .args .clock)) (s .args .time)
     (sym (c .before .before .before .before .before .before .before .before .before .before .of-packet .ensures) ∙ c .before .before .before .before .before .before .before .before .before .if1 .left)
 
 returns-2 : tie.Need-returns-2
 returns-2 c =
     let s = c .before .before .before .before .before .before .before .before .before .before .before .before in
-    refused-reading document01 (s .args .set) (now (s .args .cell)) (now (s .args .plant)) (s .args .time) (now (s .args .packet))
-    (stateOf (now (s .args .records)) (now (s .args .tags)) (now (s .args .counts)) (now (s .args .clock)))
+    refused-reading (rulesOf (s .args .limits)) (s .args .limits) (now (s .args .cell)) (now (s .args .plant)) (s .args .time) (now (s .args .packet))
+    (stateOf (s .args .placing) (now (s .args .records)) (now (s .args .tags)) (now (s .args .counts)) (now (s .args .clock)))
     (sym (c .before .before .before .before .before .of-packet .ensures) ∙ c .before .before .before .before .if1 .left) (c .before .before .before .read .ensures) (c .before .number .given .1)
 
 same-length : tie.Need-same-length
@@ -57,8 +57,8 @@ same-length-3 c = search needs
 returns-3 : tie.Need-returns-3
 returns-3 c =
     let s = c .before .before .before .before .before .before .before .before .before .before .before .before .before .before .before .before .before .before .before .before .before .before .before in
-    judged-as document01 (s .args .set) (now (s .args .cell)) (now (s .args .plant)) (s .args .time) (now (s .args .packet))
-    (stateOf (now (s .args .records)) (now (s .args .tags)) (now (s .args .counts)) (now (s .args .clock)))
+    judged-as (rulesOf (s .args .limits)) (s .args .limits) (now (s .args .cell)) (now (s .args .plant)) (s .args .time) (now (s .args .packet))
+    (stateOf (s .args .placing) (now (s .args .records)) (now (s .args .tags)) (now (s .args .counts)) (now (s .args .clock)))
     (sym (c .before .before .before .before .before .before .before .before .before .before .before .before .before .before .before .before .of-packet .ensures) ∙ c .before .before .before .before .before .before .before .before .before .before .before .before .before .before .before .if1 .left) (c .before .before .before .before .before .before .before .before .before .before .before .before .before .before .read .ensures) (c .before .before .before .before .before .before .before .before .before .before .before .before .header .given .1)
     (c .before .before .before .before .before .before .before .before .before .before .direction-between .ensures) (c .before .before .before .before .before .accept .ensures)
 

@@ -4,7 +4,7 @@ use mathlib.Core.Path.{_∙_}
 use denote.Ref.{now}
 use borrow.Author.Needs.{needs}
 use Rattle.tables.specs.Tables.{tablesOf}
-use Rattle.rulings.specs.Rules.{document01}
+use Rattle.rulings.specs.Rules.{rulesOf}
 use Rattle.gateway.proofs.Steps.{by-direction, not-ours}
 use Rattle.gateway.proofs.judge_by_direction.Statement.{statement}
 use Rattle.gateway.proofs.judge_by_direction.Tie as tie
@@ -33,13 +33,13 @@ returns c =
     let told = called .before .before .before .before in
     let s = told .before .before .before .before .before in
     called .judge-ours .ensures
-    ∙ by-direction document01 (s .args .set) (s .args .header) (tablesOf (now (s .args .records)) (now (s .args .tags)) (now (s .args .counts)))
+    ∙ by-direction (rulesOf (s .args .limits)) (s .args .placing) (s .args .header) (tablesOf (now (s .args .records)) (now (s .args .tags)) (now (s .args .counts)))
     (s .args .direction) (told .before .before .is-ours .ensures) (told .before .if1 .taken) (told .is-from-plant .ensures)
 
 returns-2 : tie.Need-returns-2
 returns-2 c =
     let s = c .before .before .before .before in
-    not-ours document01 (s .args .set) (s .args .header) (tablesOf (now (s .args .records)) (now (s .args .tags)) (now (s .args .counts)))
+    not-ours (rulesOf (s .args .limits)) (s .args .placing) (s .args .header) (tablesOf (now (s .args .records)) (now (s .args .tags)) (now (s .args .counts)))
     (s .args .direction) (c .before .is-ours .ensures) (c .if1 .left)
 
 pub judge-by-direction-spec : {M : Type 1} → statement M

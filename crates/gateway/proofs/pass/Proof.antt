@@ -6,7 +6,7 @@ use borrow.Author.Needs.{needs}
 use Rattle.gateway.proofs.Steps.{refused-by, not-refused}
 use Rattle.gateway.specs.Calls.{stateOf, onward, passed}
 use Rattle.gateway.specs.declared.Reply.the-variants.{Refused, Done}
-use Rattle.rulings.specs.Rules.{document01}
+use Rattle.rulings.specs.Rules.{rulesOf}
 use Rattle.tables.specs.Clock.{Timed}
 use Rattle.gateway.proofs.pass.Statement.{statement}
 use Rattle.gateway.proofs.pass.Tie as tie
@@ -18,8 +18,8 @@ returns : tie.Need-returns
 unfolding passed
 returns c =
     let s = c .before .before .before .before .before in
-    let before = stateOf (now (s .args .records)) (now (s .args .tags)) (now (s .args .counts)) (now (s .args .clock)) in
-    refused-by Refused before (record { answer = Done; state = onward (document01 (s .args .set) .point) (s .args .set) (s .args .time) before }) _
+    let before = stateOf (s .args .placing) (now (s .args .records)) (now (s .args .tags)) (now (s .args .counts)) (now (s .args .clock)) in
+    refused-by Refused before (record { answer = Done; state = onward (rulesOf (s .args .limits) .point) (s .args .limits) (s .args .time) before }) _
     (c .before .of-time .ensures) (c .if1 .taken)
 
 pass-requires : tie.Need-pass-requires
@@ -36,9 +36,9 @@ unfolding passed
 returns-2 c =
     let i = c .before .before .before .before .before .before .before in
     let s = i .before .before .before .before .before in
-    let before = stateOf (now (s .args .records)) (now (s .args .tags)) (now (s .args .counts)) (now (s .args .clock)) in
-    ap (λ (t : Timed). record { answer = Done; state = stateOf (t .records) (now (s .args .tags)) (t .counts) (t .clock) }) (c .before .before .before .pass .ensures)
-    ∙ not-refused Refused before (record { answer = Done; state = onward (document01 (s .args .set) .point) (s .args .set) (s .args .time) before }) _
+    let before = stateOf (s .args .placing) (now (s .args .records)) (now (s .args .tags)) (now (s .args .counts)) (now (s .args .clock)) in
+    ap (λ (t : Timed). record { answer = Done; state = stateOf (s .args .placing) (t .records) (now (s .args .tags)) (t .counts) (t .clock) }) (c .before .before .before .pass .ensures)
+    ∙ not-refused Refused before (record { answer = Done; state = onward (rulesOf (s .args .limits) .point) (s .args .limits) (s .args .time) before }) _
     (i .before .of-time .ensures) (i .if1 .left)
 
 pub pass-spec : {M : Type 1} → statement M

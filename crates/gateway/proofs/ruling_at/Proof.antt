@@ -7,7 +7,7 @@ use denote.Ref.{now}
 use mir.Syntax.{w16}
 use mir.ValLaws.{toZ-ofZ}
 use borrow.Author.Needs.{needs}
-use Rattle.rulings.specs.Rules.{document01}
+use Rattle.rulings.specs.Rules.{rulesOf}
 use Rattle.rulings.specs.Rulings.{rulingOf}
 use Rattle.gateway.proofs.ruling_at.Statement.{statement}
 use Rattle.gateway.proofs.ruling_at.Tie as tie
@@ -25,7 +25,7 @@ returns : tie.Need-returns
 returns c =
     let s = c .before .before .before .before .before in
     rw (toZ-ofZ w16 _ (record { sfits = c .before .before .count-of .ok })) at (c .ruling-of .ensures)
-    ∙ ap (λ (n : ℤ). rulingOf (document01 (s .args .set)) (s .args .header) (s .args .from-plant) (getD (now (s .args .records)) (s .args .spot .slot) 0) n) (c .before .before .count-of .ensures)
+    ∙ ap (λ (n : ℤ). rulingOf (rulesOf (s .args .limits)) (s .args .header) (s .args .from-plant) (getD (now (s .args .records)) (s .args .spot .slot) 0) n) (c .before .before .count-of .ensures)
 
 pub ruling-at-spec : {M : Type 1} → statement M
 ruling-at-spec =

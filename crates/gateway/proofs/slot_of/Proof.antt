@@ -1,7 +1,6 @@
 -- `gateway::slot_of` meets its contract: the slot of plant address, cell address and port.
 -- Assumes nothing.
 use mathlib.Core.Path.{_∙_}
-use denote.Ref.{now}
 use borrow.Author.Needs.{needs}
 use Rattle.places.specs.Places.{slotOf}
 use Rattle.gateway.proofs.slot_of.Statement.{statement}
@@ -24,8 +23,10 @@ slot-requires c κs = search needs
 
 returns : tie.Need-returns
 returns c =
-    let s = c .before .before .before .before in
-    c .slot .ensures ∙ (λ i. slotOf (now (s .args .keys)) (c .before .before .before .plant-of .ensures i) (c .before .before .cell-of .ensures i) (c .before .port .ensures i) (s .args .records))
+    let cell = c .before .before .before .before in
+    let plant = cell .before in
+    let s = plant .before in
+    c .slot .ensures ∙ (λ i. slotOf (s .args .t1 .keys) (plant .plant-of .ensures i) (cell .cell-of .ensures i) (c .before .port .ensures i) (s .args .records))
 
 pub slot-of-spec : {M : Type 1} → statement M
 slot-of-spec =

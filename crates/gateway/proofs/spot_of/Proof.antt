@@ -27,7 +27,7 @@ place-of-requires c κs = search needs
 
 returns : tie.Need-returns
 returns c =
-    let s = c .before .before .before .before .before .before .before in
+    let s = c .before .before .before .before .before in
     λ i. record {
       slot = c .before .before .before .before .slot-of .ensures i;
       lines = s .args .tags / 4;

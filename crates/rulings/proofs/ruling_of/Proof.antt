@@ -29,9 +29,9 @@ returns c =
     let s = v .before .before .before .before in
     let count = toZ-ofZ w16 _ (s .fits .count) in
     rw (toZ-ofZ w16 _ (record { sfits = c .struct-told2 .given .1 .0 .1 }))
-    (ruled (s .args .set) (s .args .header) (s .args .from-plant) (s .args .byte) (s .args .count)
+    (ruled (s .args .limits) (s .args .header) (s .args .from-plant) (s .args .byte) (s .args .count)
     (rw count at (v .before .before .is-blocked .ensures)) (v .before .marks-of .ensures) (v .verdict-of .ensures) (c .before .record-after .ensures)
-    (rw (count, toZ-ofZ w16 _ (record { sfits = k .before .struct-told .given .1 .1 .0 .1 })) at (k .count-after .ensures)))
+    (rw (count, toZ-ofZ w16 _ (record { sfits = k .before .struct-told .given .1 .0 .1 })) at (k .count-after .ensures)))
 
 pub ruling-of-spec : {M : Type 1} → statement M
 ruling-of-spec =
