@@ -15,7 +15,7 @@ use Rattle.rulings.specs.declared.answers.Answer.{Answer}
 use Rattle.rulings.specs.declared.answers.Answer.the-variants.{Refused, NotOurs, Judged}
 use Rattle.rulings.specs.Answers.{verdictTold}
 use Rattle.rulings.specs.Rules.{Rules}
-use Rattle.settings.specs.declared.Settings.{Settings}
+use Rattle.settings.specs.declared.Limits.{Limits}
 use Rattle.gateway.specs.Calls.{State, After, judged}
 use Rattle.gateway.proofs.Refusals.{Numbered, packet-numbered}
 use Rattle.frames.specs.declared.Inside.{Inside}
@@ -84,18 +84,18 @@ same-verdict NotOurs numbered = refl
 same-verdict (Judged v c replaced) numbered = judged-verdict v c replaced
 
 -- ---- every answer that crosses has such a number
-module _ (rules : Settings → Rules) (settings : Settings) (cell plant : List ℕ) (time : ℕ) (before : State) where
-  pub of-packets : (bytes : List ℕ) → answerBack (plainAnswer (judged rules settings cell plant time bytes before .answer)) ≡ judged rules settings cell plant time bytes before .answer
-  of-packets bytes = comes-back _ (packet-numbered settings time before rules cell plant bytes)
+module _ (rules : Rules) (limits : Limits) (cell plant : List ℕ) (time : ℕ) (before : State) where
+  pub of-packets : (bytes : List ℕ) → answerBack (plainAnswer (judged rules limits cell plant time bytes before .answer)) ≡ judged rules limits cell plant time bytes before .answer
+  of-packets bytes = comes-back _ (packet-numbered limits time before rules cell plant bytes)
 
   frame-numbered : (i : Inside) (after : After Answer) → Numbered (after .answer) → Numbered (byInside i before after .answer)
   frame-numbered Short after done = tt
   frame-numbered Packet after done = done
   frame-numbered Other after done = tt
 
-  pub of-frames : (frame : List ℕ) → answerBack (plainAnswer (frameJudged rules settings cell plant time frame before .answer)) ≡ frameJudged rules settings cell plant time frame before .answer
+  pub of-frames : (frame : List ℕ) → answerBack (plainAnswer (frameJudged rules limits cell plant time frame before .answer)) ≡ frameJudged rules limits cell plant time frame before .answer
   unfolding frameJudged
-  of-frames frame = comes-back _ (frame-numbered (insideOf frame) _ (packet-numbered settings time before rules cell plant (carried frame)))
+  of-frames frame = comes-back _ (frame-numbered (insideOf frame) _ (packet-numbered limits time before rules cell plant (carried frame)))
 
 module _ (tally : Tally) (verdict : ℕ) where
   pub refused-adds-none : (refusal : ℕ) → (refusal ≡ 0 → ⊥) → tallied tally (byRefusal refusal verdict) ≡ tally

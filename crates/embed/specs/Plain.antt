@@ -20,17 +20,23 @@ use Rattle.capture.specs.declared.Reading.the-variants as reading
 use Rattle.capture.specs.declared.Written.{Written}
 use Rattle.capture.specs.declared.Written.the-variants as written
 use Rattle.capture.specs.Writing.{Put}
-use Rattle.gateway.specs.Calls.{After}
+use Rattle.gateway.specs.declared.Started.{Started}
+use Rattle.gateway.specs.Calls.{After, refusalIn}
 use Rattle.tally.specs.Tally.{verdictNumbered}
 use Rattle.embed.specs.declared.plain.PlainAnswer.{PlainAnswer}
 use Rattle.embed.specs.declared.plain.PlainWinner.{PlainWinner}
 use Rattle.embed.specs.declared.plain.PlainOpening.{PlainOpening}
 use Rattle.embed.specs.declared.plain.PlainNext.{PlainNext}
+use Rattle.embed.specs.declared.plain.PlainStarted.{PlainStarted}
 use Rattle.embed.specs.declared.plain.PlainWritten.{PlainWritten}
 
 -- what a call leaves, with its answer in plain numbers
 abbrev pub plainly : {A B : Type 0} → (A → B) → After A → After B
 plainly plain after = record { answer = plain (after .answer); state = after .state }
+
+-- the answer to a start: its refusal's number or 0, and what places packets
+abbrev pub plainStarted : Started → PlainStarted
+plainStarted started = record { refusal = refusalIn (started .reply); placing = started .placing }
 
 -- ---- the answer to a packet
 abbrev pub plainJudged : ℕ → ℤ → Replacement → PlainAnswer

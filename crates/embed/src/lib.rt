@@ -2,14 +2,14 @@
 // does and answers. Each function hands on to the crate that does the work; only
 // that a short frame is refused by 5 and a bad record by 8 is said here again.
 ghost use mathlib.Core.Path.{_≡_};
-ghost use Rattle.rulings.specs.Rules.{document01};
+ghost use Rattle.rulings.specs.Rules.{rulesOf};
 ghost use Rattle.settings.specs.Settings.{factorySettings};
 ghost use Rattle.permute.specs.Permutation.{E, D};
 ghost use Rattle.sides.specs.Lists.{winningOf};
 ghost use Rattle.capture.specs.Capture.{openedOf, nextOf};
 ghost use Rattle.capture.specs.Format.{contentOf};
 ghost use Rattle.capture.specs.Writing.{headerPut, recordPut};
-ghost use Rattle.gateway.specs.Calls.{afterOf, stateOf, refusalIn, started, passed, judged};
+ghost use Rattle.gateway.specs.Calls.{lent, left, refusalIn, coldPlacing, started, passed, judged};
 ghost use Rattle.frames.specs.Frames.{frameJudged};
 ghost use Rattle.tally.specs.Tally.{tallied};
 ghost use Rattle.embed.specs.Plain.{plainly, plainAnswer, plainWinner, plainOpening, plainNext, plainPutOf, plainPut, verdictIn};
@@ -18,12 +18,15 @@ pub mod plain;
 
 use capture::Cursor;
 use frames::Inside;
+use places::Placing;
 use plain::PlainAnswer;
 use plain::PlainNext;
 use plain::PlainOpening;
+use plain::PlainStarted;
 use plain::PlainWinner;
 use plain::PlainWritten;
 use rulings::answers::Answer;
+use settings::Limits;
 use settings::Settings;
 use tally::Tally;
 
@@ -35,7 +38,7 @@ pub extern "C" fn spritgrommet_factory() -> Settings
     Settings::factory()
 }
 
-// Starts cold at a time. The answer is the number of the refusal, or 0.
+// Starts cold at a time. The answer is the number of the refusal, or 0, and what places packets in the tables, for the calls that follow.
 #[no_mangle]
 pub extern "C" fn spritgrommet_cold_start(
     set: Settings,
@@ -44,35 +47,36 @@ pub extern "C" fn spritgrommet_cold_start(
     counts: &mut [i16],
     clock: &mut u32,
     time: u32,
-) -> u8
-    ensures { λ r. ⌜ afterOf r (now (records .exit)) (now (tags .exit)) (now (counts .exit)) (now (clock .exit))
-        ≡ plainly refusalIn (started set time (stateOf (now (records .entry)) (now (tags .entry)) (now (counts .entry)) (now (clock .entry)))) ⌝ }
+) -> PlainStarted
+    ensures { λ r. ⌜ left (r .placing) records tags counts clock (r .refusal)
+        ≡ plainly refusalIn (started set time (lent (coldPlacing set) records tags counts clock)) ⌝ }
 {
-    plain::of_reply(gateway::cold_start(set, records, tags, counts, clock, time))
+    plain::of_started(gateway::cold_start(set, records, tags, counts, clock, time))
 }
 
 // Passes a time, with no packet. The answer is the number of the refusal, or 0.
 #[no_mangle]
 pub extern "C" fn spritgrommet_pass(
-    set: Settings,
+    limits: Limits,
+    placing: Placing,
     records: &mut [u8],
     tags: &mut [u32],
     counts: &mut [i16],
     clock: &mut u32,
     time: u32,
 ) -> u8
-    ensures { λ r. ⌜ afterOf r (now (records .exit)) (now (tags .exit)) (now (counts .exit)) (now (clock .exit))
-        ≡ plainly refusalIn (passed document01 set time
-        (stateOf (now (records .entry)) (now (tags .entry)) (now (counts .entry)) (now (clock .entry)))) ⌝ }
+    ensures { λ r. ⌜ left placing records tags counts clock r
+        ≡ plainly refusalIn (passed (rulesOf limits) limits time (lent placing records tags counts clock)) ⌝ }
 {
-    let reply = gateway::pass(set, records, tags, counts, clock, time);
+    let reply = gateway::pass(limits, placing, records, tags, counts, clock, time);
     plain::of_reply(reply)
 }
 
 // Judges a packet, from its IPv4 header on, that comes at a time. The answer is the refusal, or the verdict with what belongs to it.
 #[no_mangle]
 pub extern "C" fn spritgrommet_judge(
-    set: Settings,
+    limits: Limits,
+    placing: Placing,
     cell: &[u8],
     plant: &[u8],
     records: &mut [u8],
@@ -82,18 +86,31 @@ pub extern "C" fn spritgrommet_judge(
     time: u32,
     packet: &[u8],
 ) -> PlainAnswer
-    ensures { λ r. ⌜ afterOf r (now (records .exit)) (now (tags .exit)) (now (counts .exit)) (now (clock .exit))
-        ≡ plainly plainAnswer (judged document01 set (now (cell .entry)) (now (plant .entry)) time (now (packet .entry))
-        (stateOf (now (records .entry)) (now (tags .entry)) (now (counts .entry)) (now (clock .entry)))) ⌝ }
+    ensures { λ r. ⌜ left placing records tags counts clock r
+        ≡ plainly plainAnswer
+        (judged (rulesOf limits) limits (now (cell .entry)) (now (plant .entry)) time (now (packet .entry)) (lent placing records tags counts clock)) ⌝ }
 {
-    plain::of_answer(gateway::judge(set, cell, plant, records, tags, counts, clock, time, packet))
+    let answer = gateway::judge(
+        limits,
+        placing,
+        cell,
+        plant,
+        records,
+        tags,
+        counts,
+        clock,
+        time,
+        packet,
+    );
+    plain::of_answer(answer)
 }
 
 // Judges what an Ethernet frame that comes at a time carries. The answer is as for a packet. It goes on to `spritgrommet_judge`, and not by
 // `frames::judge`, so that the archive has the judge once, in the function that is called for every packet.
 #[no_mangle]
 pub extern "C" fn spritgrommet_judge_frame(
-    set: Settings,
+    limits: Limits,
+    placing: Placing,
     cell: &[u8],
     plant: &[u8],
     records: &mut [u8],
@@ -103,15 +120,26 @@ pub extern "C" fn spritgrommet_judge_frame(
     time: u32,
     frame: &[u8],
 ) -> PlainAnswer
-    ensures { λ r. ⌜ afterOf r (now (records .exit)) (now (tags .exit)) (now (counts .exit)) (now (clock .exit))
-        ≡ plainly plainAnswer (frameJudged document01 set (now (cell .entry)) (now (plant .entry)) time (now (frame .entry))
-        (stateOf (now (records .entry)) (now (tags .entry)) (now (counts .entry)) (now (clock .entry)))) ⌝ }
+    ensures { λ r. ⌜ left placing records tags counts clock r
+        ≡ plainly plainAnswer
+        (frameJudged (rulesOf limits) limits (now (cell .entry)) (now (plant .entry)) time (now (frame .entry)) (lent placing records tags counts clock)) ⌝ }
 {
     match frames::what_is_in(frame) {
         Inside::Short => plain::of_answer(Answer::Refused(5)),
         Inside::Packet => {
-            let packet = &frame[14..];
-            spritgrommet_judge(set, cell, plant, records, tags, counts, clock, time, packet)
+            let carried = &frame[14..];
+            spritgrommet_judge(
+                limits,
+                placing,
+                cell,
+                plant,
+                records,
+                tags,
+                counts,
+                clock,
+                time,
+                carried,
+            )
         }
         Inside::Other => plain::of_answer(Answer::NotOurs),
     }

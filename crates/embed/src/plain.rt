@@ -2,18 +2,28 @@
 ghost use mathlib.Core.Path.{_≡_};
 ghost use Rattle.gateway.specs.Calls.{refusalIn};
 ghost use Rattle.tally.specs.Tally.{tallied};
-ghost use Rattle.embed.specs.Plain.{sideNumber, plainAnswer, plainJudged, plainWinner, plainOpening, noRecord, plainNext, plainWritten, verdictIn};
+ghost use Rattle.embed.specs.Plain.{sideNumber, plainStarted, plainAnswer, plainJudged, plainWinner, plainOpening, noRecord, plainNext, plainWritten, verdictIn};
 use capture::Cursor;
 use capture::Opened;
 use capture::Reading;
 use capture::Record;
 use capture::Written;
 use gateway::Reply;
+use gateway::Started;
+use places::Placing;
 use rulings::answers::Answer;
 use rulings::answers::Replacement;
 use sides::Side;
 use sides::Winning;
 use tally::Tally;
+
+// The answer to a start: the number of its refusal, or 0; and what places packets in the tables, on which the gateway runs where it is not
+// refused.
+#[repr(C)]
+pub struct PlainStarted {
+    pub refusal: u8,
+    pub placing: Placing,
+}
 
 // The answer to a packet: the number of its refusal, or 0; the verdict, 0 to 6; the cell address's count after it; 1 where an address lost
 // its entry, and that address.
@@ -63,6 +73,18 @@ pub fn of_reply(reply: Reply) -> u8
     match reply {
         Reply::Refused(number) => number,
         Reply::Done => 0,
+    }
+}
+
+// The answer to a start in plain numbers.
+pub fn of_started(started: Started) -> PlainStarted
+    ensures { λ r. ⌜ r ≡ plainStarted started ⌝ }
+{
+    let reply = started.reply;
+    let placing = started.placing;
+    PlainStarted {
+        refusal: of_reply(reply),
+        placing,
     }
 }
 

@@ -1,21 +1,23 @@
 // Why a packet was dropped, for programs in C and Rust: in an archive of its own, so that the one with the judge has each of its parts once, in
 // the function that is called for every packet. include/spritgrommet.h says what each call does and answers.
 ghost use mathlib.Core.Path.{_≡_};
-ghost use Rattle.rulings.specs.Rules.{document01};
-ghost use Rattle.gateway.specs.Calls.{stateOf};
+ghost use Rattle.rulings.specs.Rules.{rulesOf};
+ghost use Rattle.gateway.specs.Calls.{lent};
 ghost use Rattle.gateway.specs.Why.{whyOf};
 ghost use Rattle.frames.specs.Frames.{frameExplained};
 ghost use Rattle.embed_why.specs.Plain.{plainReason};
 
 pub mod plain;
 
+use places::Placing;
 use plain::PlainReason;
-use settings::Settings;
+use settings::Limits;
 
 // Why a packet, from its IPv4 header on, that comes at a time is dropped. Tables and clock are only read.
 #[no_mangle]
 pub extern "C" fn spritgrommet_why<'a>(
-    set: Settings,
+    limits: Limits,
+    placing: Placing,
     cell: &'a [u8],
     plant: &'a [u8],
     records: &[u8],
@@ -25,17 +27,29 @@ pub extern "C" fn spritgrommet_why<'a>(
     time: u32,
     packet: &[u8],
 ) -> PlainReason
-    ensures { λ r. ⌜ r ≡ plainReason (whyOf document01 set (now (cell .entry)) (now (plant .entry)) time (now (packet .entry))
-        (stateOf (now (records .entry)) (now (tags .entry)) (now (counts .entry)) (now (clock .entry)))) ⌝ }
+    ensures { λ r. ⌜ r ≡ plainReason
+        (whyOf (rulesOf limits) limits (now (cell .entry)) (now (plant .entry)) time (now (packet .entry)) (lent placing records tags counts clock)) ⌝ }
 {
-    let told = gateway::why(set, cell, plant, records, tags, counts, clock, time, packet);
-    plain::of_explanation(told)
+    let reason = gateway::why(
+        limits,
+        placing,
+        cell,
+        plant,
+        records,
+        tags,
+        counts,
+        clock,
+        time,
+        packet,
+    );
+    plain::of_explanation(reason)
 }
 
 // Why what an Ethernet frame that comes at a time carries is dropped. Tables and clock are only read.
 #[no_mangle]
 pub extern "C" fn spritgrommet_why_frame<'a>(
-    set: Settings,
+    limits: Limits,
+    placing: Placing,
     cell: &'a [u8],
     plant: &'a [u8],
     records: &[u8],
@@ -45,9 +59,20 @@ pub extern "C" fn spritgrommet_why_frame<'a>(
     time: u32,
     frame: &[u8],
 ) -> PlainReason
-    ensures { λ r. ⌜ r ≡ plainReason (frameExplained document01 set (now (cell .entry)) (now (plant .entry)) time (now (frame .entry))
-        (stateOf (now (records .entry)) (now (tags .entry)) (now (counts .entry)) (now (clock .entry)))) ⌝ }
+    ensures { λ r. ⌜ r ≡ plainReason
+        (frameExplained (rulesOf limits) limits (now (cell .entry)) (now (plant .entry)) time (now (frame .entry)) (lent placing records tags counts clock)) ⌝ }
 {
-    let told = frames::why(set, cell, plant, records, tags, counts, clock, time, frame);
+    let told = frames::why(
+        limits,
+        placing,
+        cell,
+        plant,
+        records,
+        tags,
+        counts,
+        clock,
+        time,
+        frame,
+    );
     plain::of_explanation(told)
 }

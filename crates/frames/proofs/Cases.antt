@@ -9,7 +9,7 @@ use lib.ListN.{length, take, drop, length-drop}
 use lib.Seq.{take-all}
 use native.Mathlib.Omega.{arith}
 use borrow.Author.Tests.{lt-ltb, le-ltb, ltb-false, eq-eqb, ne-eqb}
-use Rattle.settings.specs.declared.Settings.{Settings}
+use Rattle.settings.specs.declared.Limits.{Limits}
 use Rattle.rulings.specs.Rules.{Rules}
 use Rattle.gateway.specs.Calls.{State, judged}
 use Rattle.gateway.specs.Why.{whyOf}
@@ -48,14 +48,14 @@ module _ (frame : List ℕ) where
       go true q e = absurd (short-is-none e)
       go false q e = ltb-false _ _ q
 
-  module _ (rules : Settings → Rules) (settings : Settings) (cell plant : List ℕ) (time : ℕ) (before : State) where
-    pub by-inside : {i : Inside} → i ≡ insideOf frame → byInside i before (judged rules settings cell plant time (carried frame) before) ≡ frameJudged rules settings cell plant time frame before
+  module _ (rules : Rules) (limits : Limits) (cell plant : List ℕ) (time : ℕ) (before : State) where
+    pub by-inside : {i : Inside} → i ≡ insideOf frame → byInside i before (judged rules limits cell plant time (carried frame) before) ≡ frameJudged rules limits cell plant time frame before
     unfolding frameJudged
-    by-inside e = ap (λ (j : Inside). byInside j before (judged rules settings cell plant time (carried frame) before)) e
+    by-inside e = ap (λ (j : Inside). byInside j before (judged rules limits cell plant time (carried frame) before)) e
 
-    pub why-inside : {i : Inside} → i ≡ insideOf frame → whyInside i (whyOf rules settings cell plant time (carried frame) before) ≡ frameExplained rules settings cell plant time frame before
+    pub why-inside : {i : Inside} → i ≡ insideOf frame → whyInside i (whyOf rules limits cell plant time (carried frame) before) ≡ frameExplained rules limits cell plant time frame before
     unfolding frameExplained
-    why-inside e = ap (λ (j : Inside). whyInside j (whyOf rules settings cell plant time (carried frame) before)) e
+    why-inside e = ap (λ (j : Inside). whyInside j (whyOf rules limits cell plant time (carried frame) before)) e
 
 -- all the bytes from a place on
 pub all-from : (at : ℕ) (l : List ℕ) → take (length l - at) (drop at l) ≡ drop at l

@@ -6,7 +6,7 @@ use Prim.Native.Nat.{ℕ}
 use lib.Dec.{eqb, ltb}
 use lib.ListN.{length, drop}
 use Rattle.words.specs.Words.{twoAt}
-use Rattle.settings.specs.declared.Settings.{Settings}
+use Rattle.settings.specs.declared.Limits.{Limits}
 use Rattle.rulings.specs.declared.answers.Answer.{Answer}
 use Rattle.rulings.specs.declared.answers.Answer.the-variants.{Refused, NotOurs}
 use Rattle.rulings.specs.Rules.{Rules}
@@ -34,9 +34,9 @@ byInside Short before after = record { answer = Refused 5; state = before }
 byInside Packet before after = after
 byInside Other before after = record { answer = NotOurs; state = before }
 
-unfoldable pub frameJudged : (Settings → Rules) → Settings → List ℕ → List ℕ → ℕ → List ℕ → State → After Answer
-frameJudged rules settings cell plant time frame before =
-    byInside (insideOf frame) before (judged rules settings cell plant time (carried frame) before)
+unfoldable pub frameJudged : Rules → Limits → List ℕ → List ℕ → ℕ → List ℕ → State → After Answer
+frameJudged rules limits cell plant time frame before =
+    byInside (insideOf frame) before (judged rules limits cell plant time (carried frame) before)
 
 -- document 02, K4: it "is refused exactly as the packet would be", a frame under 14 bytes by 5; and another EtherType's verdict is 0, "the
 -- verdict alone"
@@ -45,6 +45,6 @@ whyInside Short why = explanation.Refused 5
 whyInside Packet why = why
 whyInside Other why = explanation.NotOurs
 
-unfoldable pub frameExplained : (Settings → Rules) → Settings → List ℕ → List ℕ → ℕ → List ℕ → State → Explanation
-frameExplained rules settings cell plant time frame before =
-    whyInside (insideOf frame) (whyOf rules settings cell plant time (carried frame) before)
+unfoldable pub frameExplained : Rules → Limits → List ℕ → List ℕ → ℕ → List ℕ → State → Explanation
+frameExplained rules limits cell plant time frame before =
+    whyInside (insideOf frame) (whyOf rules limits cell plant time (carried frame) before)

@@ -1,12 +1,13 @@
 // An Ethernet frame: what it carries is judged, or explained, where that is IPv4. A frame that is too short, or carries something else, does
 // not reach the gateway.
 ghost use mathlib.Core.Path.{_≡_};
-ghost use Rattle.rulings.specs.Rules.{document01};
-ghost use Rattle.gateway.specs.Calls.{afterOf, stateOf};
+ghost use Rattle.rulings.specs.Rules.{rulesOf};
+ghost use Rattle.gateway.specs.Calls.{lent, left};
 ghost use Rattle.frames.specs.Frames.{insideOf, frameJudged, frameExplained};
+use places::Placing;
 use reasons::Explanation;
 use rulings::answers::Answer;
-use settings::Settings;
+use settings::Limits;
 
 // What a frame holds: too few bytes for its own header, an IPv4 packet behind it, or something else.
 pub enum Inside {
@@ -31,7 +32,8 @@ pub fn what_is_in(frame: &[u8]) -> Inside
 // Judges the packet of a frame that comes at a time. Answers refusal 5 for a frame that is too short, verdict 0 for one that carries
 // something else than IPv4, and else what the gateway answers.
 pub fn judge(
-    set: Settings,
+    limits: Limits,
+    placing: Placing,
     cell: &[u8],
     plant: &[u8],
     records: &mut [u8],
@@ -41,15 +43,25 @@ pub fn judge(
     time: u32,
     frame: &[u8],
 ) -> Answer
-    ensures { λ r. ⌜ afterOf r (now (records .exit)) (now (tags .exit)) (now (counts .exit)) (now (clock .exit))
-        ≡ frameJudged document01 set (now (cell .entry)) (now (plant .entry)) time (now (frame .entry))
-        (stateOf (now (records .entry)) (now (tags .entry)) (now (counts .entry)) (now (clock .entry))) ⌝ }
+    ensures { λ r. ⌜ left placing records tags counts clock r
+        ≡ frameJudged (rulesOf limits) limits (now (cell .entry)) (now (plant .entry)) time (now (frame .entry)) (lent placing records tags counts clock) ⌝ }
 {
     match what_is_in(frame) {
         Inside::Short => Answer::Refused(5),
         Inside::Packet => {
             let packet = &frame[14..];
-            gateway::judge(set, cell, plant, records, tags, counts, clock, time, packet)
+            gateway::judge(
+                limits,
+                placing,
+                cell,
+                plant,
+                records,
+                tags,
+                counts,
+                clock,
+                time,
+                packet,
+            )
         }
         Inside::Other => Answer::NotOurs,
     }
@@ -58,7 +70,8 @@ pub fn judge(
 // Why the packet of a frame that comes at a time is dropped. Answers refusal 5 for a frame that is too short, that it is not ours for one that
 // carries something else than IPv4, and else what the gateway answers.
 pub fn why<'a>(
-    set: Settings,
+    limits: Limits,
+    placing: Placing,
     cell: &'a [u8],
     plant: &'a [u8],
     records: &[u8],
@@ -68,14 +81,24 @@ pub fn why<'a>(
     time: u32,
     frame: &[u8],
 ) -> Explanation
-    ensures { λ r. ⌜ r ≡ frameExplained document01 set (now (cell .entry)) (now (plant .entry)) time (now (frame .entry))
-        (stateOf (now (records .entry)) (now (tags .entry)) (now (counts .entry)) (now (clock .entry))) ⌝ }
+    ensures { λ r. ⌜ r ≡ frameExplained (rulesOf limits) limits (now (cell .entry)) (now (plant .entry)) time (now (frame .entry)) (lent placing records tags counts clock) ⌝ }
 {
     match what_is_in(frame) {
         Inside::Short => Explanation::Refused(5),
         Inside::Packet => {
             let packet = &frame[14..];
-            gateway::why(set, cell, plant, records, tags, counts, clock, time, packet)
+            gateway::why(
+                limits,
+                placing,
+                cell,
+                plant,
+                records,
+                tags,
+                counts,
+                clock,
+                time,
+                packet,
+            )
         }
         Inside::Other => Explanation::NotOurs,
     }

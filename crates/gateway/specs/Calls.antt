@@ -38,18 +38,18 @@ pub record After (A : Type 0) : Type 0 where
   pub answer : A
   pub state : State
 
--- what a call is lent, at its entry and at its exit, beside what places packets: the state before it, and what it leaves
+-- what a call is lent, at its entry and at its exit, beside what places packets: the state before it, the state after it, and
+-- with the answer what it leaves
 module _ (placing : Placing) (records tags : Both (RefT (List ℕ)) (RefT (List ℕ))) (counts : Both (RefT (List ℤ)) (RefT (List ℤ)))
     (clock : Both (RefT ℕ) (RefT ℕ)) where
   abbrev pub lent : State
   lent = stateOf placing (records .entry .now) (tags .entry .now) (counts .entry .now) (clock .entry .now)
 
+  abbrev pub leftState : State
+  leftState = stateOf placing (records .exit .now) (tags .exit .now) (counts .exit .now) (clock .exit .now)
+
   abbrev pub left : {A : Type 0} → A → After A
-  left answer =
-      record {
-        answer = answer;
-        state = stateOf placing (records .exit .now) (tags .exit .now) (counts .exit .now) (clock .exit .now);
-      }
+  left answer = record { answer = answer; state = leftState }
 
 -- ---- refusals
 -- a number, or where it is 0 another

@@ -3,7 +3,7 @@
 use mathlib.Core.Bool.{Bool, true, false}
 use mathlib.Core.Path.{_≡_, refl, sym, ap, subst, _∙_}
 use mathlib.Core.List.{List}
-use Prim.Native.Nat.{ℕ}
+use Prim.Native.Nat.{ℕ, zero, suc}
 use Rattle.settings.specs.declared.Settings.{Settings}
 use Rattle.capture.specs.declared.Cursor.{Cursor}
 use Rattle.capture.specs.declared.Record.{Record}
@@ -12,9 +12,10 @@ use Rattle.capture.specs.declared.Reading.the-variants as reading
 use Rattle.capture.specs.Capture.{nextOf}
 use Rattle.capture.specs.Whole.{bytesOf}
 use Rattle.rulings.specs.declared.answers.Answer.{Answer}
-use Rattle.rulings.specs.Rules.{document01}
+use Rattle.tables.specs.Tables.{Tables}
 use Rattle.gateway.specs.declared.Reply.{Reply}
-use Rattle.gateway.specs.Calls.{State, After, started}
+use Rattle.gateway.specs.declared.Reply.the-variants.{Refused, Done}
+use Rattle.gateway.specs.Calls.{State, After, unlessRefused, startRefusalAt, coldPlacing, coldState, started}
 use Rattle.frames.specs.Frames.{frameJudged, frameExplained}
 use Rattle.reasons.specs.declared.Asked.{Asked}
 use Rattle.reasons.specs.declared.Asked.the-variants.{Nothing, Why}
@@ -22,39 +23,49 @@ use Rattle.reasons.specs.declared.Explanation.{Explanation}
 use Rattle.replay.specs.declared.Judgement.{Judgement}
 use Rattle.replay.specs.declared.Step.{Step}
 use Rattle.replay.specs.declared.Step.the-variants as step
-use Rattle.replay.specs.Replay.{programSettings, cellList, plantList, startedFirst, recordJudged, askedOf, judgementOf, judgedStep, byReading, stepped}
+use Rattle.replay.specs.Replay.{programSettings, programLimits, programRules, programPlacing, cellList, plantList, startedFirst, recordJudged, askedOf, judgementOf, judgedStep, byReading, stepped}
 
-module _ (time : ℕ) (before : State) where
-  pub first : (settings : Settings) (after : After Reply) → settings ≡ programSettings → after ≡ started settings time before
-      → after .state ≡ startedFirst true time before
-  unfolding startedFirst
-  first settings after e f = rw (f, e)
+-- a state of a program, by its tables and clock
+abbrev programState : Tables → ℕ → State
+programState tables clock = record { placing = programPlacing; tables = tables; clock = clock }
 
-  pub further : startedFirst false time before ≡ before
-  unfolding startedFirst
-  further = refl
+-- the first record starts it: with that, and without where it is refused
+module _ (time : ℕ) (tables : Tables) (clock : ℕ) where
+  starts : (number : ℕ)
+      → let after = unlessRefused Refused number (programState tables clock) (record { answer = Done; state = coldState programSettings time (programState tables clock) }) in
+      programState (after .state .tables) (after .state .clock) ≡ after .state
+  starts zero = refl
+  starts (suc n) = refl
+
+  pub first : (settings : Settings) (after : After Reply) → settings ≡ programSettings
+      → after ≡ started settings time (record { placing = coldPlacing settings; tables = tables; clock = clock })
+      → programState (after .state .tables) (after .state .clock) ≡ startedFirst true time (programState tables clock)
+  unfolding startedFirst started
+  first settings after e f = rw (f, e) (starts (startRefusalAt programLimits (programState tables clock)))
+
+pub further : (time : ℕ) (before : State) → startedFirst false time before ≡ before
+unfolding startedFirst
+further time before = refl
 
 -- whether it is asked
 module _ (time : ℕ) (frame : List ℕ) (before : State) where
-  pub is-asked : (settings : Settings) (explanation : Explanation) → settings ≡ programSettings
-      → explanation ≡ frameExplained document01 settings cellList plantList time frame before → Why explanation ≡ askedOf true time frame before
+  pub is-asked : (explanation : Explanation)
+      → explanation ≡ frameExplained programRules programLimits cellList plantList time frame before → Why explanation ≡ askedOf true time frame before
   unfolding askedOf
-  is-asked settings explanation e f = rw (f, e)
+  is-asked explanation f = ap Why f
 
   pub not-asked : Nothing ≡ askedOf false time frame before
   unfolding askedOf
   not-asked = refl
 
-pub judged-as : (asks isFirst : Bool) (bytes : List ℕ) (r : Record) (before middle : State) (settings : Settings) (answer : Answer) (after : State)
-    (asked : Asked)
-    → settings ≡ programSettings
+pub judged-as : (asks isFirst : Bool) (bytes : List ℕ) (r : Record) (before middle : State) (answer : Answer) (after : State) (asked : Asked)
     → middle ≡ startedFirst isFirst (r .seconds) before
     → asked ≡ askedOf asks (r .seconds) (bytesOf bytes r) middle
-    → record { answer = answer; state = after } ≡ frameJudged document01 settings cellList plantList (r .seconds) (bytesOf bytes r) middle
+    → record { answer = answer; state = after } ≡ frameJudged programRules programLimits cellList plantList (r .seconds) (bytesOf bytes r) middle
     → record { answer = record { answer = answer; asked = asked }; state = after } ≡ judgementOf asks isFirst bytes r before
 unfolding recordJudged
-judged-as asks isFirst bytes r before middle settings answer after asked e f h g =
-    (λ i. record { answer = record { answer = g i .answer; asked = h i }; state = g i .state }) ∙ rw (e, f) refl
+judged-as asks isFirst bytes r before middle answer after asked f h g =
+    (λ i. record { answer = record { answer = g i .answer; asked = h i }; state = g i .state }) ∙ rw f refl
 
 pub read-as : (asks isFirst : Bool) (bytes : List ℕ) (cursor : Cursor) (before : State) {found : Reading} (after : After Step)
     → nextOf bytes cursor ≡ found → after ≡ byReading asks isFirst bytes found before → after ≡ stepped asks isFirst bytes cursor before

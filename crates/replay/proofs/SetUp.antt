@@ -11,7 +11,7 @@ use lib.ListN.{length, length-replicate}
 use borrow.Author.Tests.{le-ltb}
 use Rattle.laws.specs.Signed.{minus}
 use Rattle.laws.specs.Search.{every}
-use Rattle.settings.specs.Settings.{badSettings}
+use Rattle.settings.specs.Settings.{badLimits}
 use Rattle.sides.specs.Lists.{badList}
 use Rattle.packet.specs.Header.{headerRefusal}
 use Rattle.capture.specs.declared.Cursor.{Cursor}
@@ -22,7 +22,6 @@ use Rattle.capture.specs.Capture.{nextOf}
 use Rattle.capture.specs.Whole.{bytesOf}
 use Rattle.tables.specs.Sizes.{badSizes}
 use Rattle.rulings.specs.Answers.{refusalTold}
-use Rattle.rulings.specs.Rules.{document01}
 use Rattle.cold.specs.Cold.{coldTables}
 use Rattle.refusals.specs.Refusals.{startRefusal, earlyRefusal}
 use Rattle.gateway.specs.Calls.{State, numberOr, packetRefusal, coldState, started, judged}
@@ -30,25 +29,25 @@ use Rattle.gateway.proofs.Refusals.{packet-told}
 use Rattle.frames.specs.declared.Inside.{Inside}
 use Rattle.frames.specs.declared.Inside.the-variants.{Short, Packet, Other}
 use Rattle.frames.specs.Frames.{insideOf, carried, byInside, frameJudged}
-use Rattle.replay.specs.Replay.{programSettings, cellList, plantList, startedFirst, recordJudged, byReading, stepped, stepRefusal}
+use Rattle.replay.specs.Replay.{programSettings, programLimits, programRules, cellList, plantList, startedFirst, recordJudged, byReading, stepped, stepRefusal}
 
 -- "a cold table of 4,096 records and 256 lines"
 module _ (time : ℕ) (before : State) (records : length (before .tables .records) ≡ 4096) (tags : length (before .tables .tags) ≡ 1024)
     (counts : length (before .tables .counts) ≡ 1024) where
-  pub starts : startedFirst true time before ≡ coldState time before
-  unfolding startedFirst started startRefusal badSettings badSizes
+  pub starts : startedFirst true time before ≡ coldState programSettings time before
+  unfolding startedFirst started startRefusal badLimits badSizes
   starts = rw (records, tags, counts) refl
 
   module _ (bytes : List ℕ) where
     abbrev fourOrHeader : ℕ
     fourOrHeader = numberOr (cond (ltb time (before .clock)) 4 0) (headerRefusal bytes)
 
-    no-other : packetRefusal programSettings cellList plantList time bytes before ≡ fourOrHeader
-    unfolding every earlyRefusal badSettings badSizes badList
+    no-other : packetRefusal programLimits cellList plantList time bytes before ≡ fourOrHeader
+    unfolding every earlyRefusal badLimits badSizes badList
     no-other = rw (records, tags, counts) refl
 
-    pub by-four-or-header : refusalTold (judged document01 programSettings cellList plantList time bytes before .answer) ≡ fourOrHeader
-    by-four-or-header = packet-told programSettings time before document01 cellList plantList bytes ∙ no-other
+    pub by-four-or-header : refusalTold (judged programRules programLimits cellList plantList time bytes before .answer) ≡ fourOrHeader
+    by-four-or-header = packet-told programLimits time before programRules cellList plantList bytes ∙ no-other
 
 -- ---- the number of a step
 module _ (before : State) (records : length (before .tables .records) ≡ 4096) (tags : length (before .tables .tags) ≡ 1024)
@@ -69,13 +68,13 @@ module _ (before : State) (records : length (before .tables .records) ≡ 4096) 
       (numberOr (cond (ltb (r .seconds) (before .clock)) 4 0) (headerRefusal (carried (bytesOf bytes r))))
 
   frame-refusal : (time : ℕ) (frame : List ℕ)
-      → refusalTold (frameJudged document01 programSettings cellList plantList time frame before .answer)
+      → refusalTold (frameJudged programRules programLimits cellList plantList time frame before .answer)
       ≡ frameNumber (insideOf frame) (numberOr (cond (ltb time (before .clock)) 4 0) (headerRefusal (carried frame)))
   unfolding frameJudged
   frame-refusal time frame = go (insideOf frame)
     where
       go : (inside : Inside)
-          → refusalTold (byInside inside before (judged document01 programSettings cellList plantList time (carried frame) before) .answer)
+          → refusalTold (byInside inside before (judged programRules programLimits cellList plantList time (carried frame) before) .answer)
           ≡ frameNumber inside (numberOr (cond (ltb time (before .clock)) 4 0) (headerRefusal (carried frame)))
       go Short = refl
       go Packet = by-four-or-header time before records tags counts (carried frame)
@@ -103,8 +102,8 @@ module _ (before : State) (records : length (before .tables .records) ≡ 4096) 
   first-refusal asks bytes r =
       let time : ℕ = r .seconds in
       let frame : List ℕ = bytesOf bytes r in
-      ap (λ (s : State). refusalTold (frameJudged document01 programSettings cellList plantList time frame s .answer)) (starts time before records tags counts)
-      ∙ frame-refusal (coldState time before)
+      ap (λ (s : State). refusalTold (frameJudged programRules programLimits cellList plantList time frame s .answer)) (starts time before records tags counts)
+      ∙ frame-refusal (coldState programSettings time before)
       (length-replicate {A = ℕ} (length (before .tables .records)) 0 ∙ records)
       (length-replicate {A = ℕ} (length (before .tables .tags)) 0 ∙ tags)
       (length-replicate (length (before .tables .counts)) (minus 32768) ∙ counts)

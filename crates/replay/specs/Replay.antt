@@ -4,8 +4,10 @@
 use mathlib.Core.Bool.{Bool, cond}
 use mathlib.Core.List.{List, [], _∷_}
 use Prim.Native.Nat.{ℕ}
+use Rattle.settings.specs.declared.Limits.{Limits}
 use Rattle.settings.specs.declared.Settings.{Settings}
-use Rattle.settings.specs.Settings.{factorySettings}
+use Rattle.settings.specs.Settings.{factorySettings, withThreshold}
+use Rattle.places.specs.declared.Placing.{Placing}
 use Rattle.capture.specs.declared.Cursor.{Cursor}
 use Rattle.capture.specs.declared.Record.{Record}
 use Rattle.capture.specs.declared.Reading.{Reading}
@@ -16,8 +18,8 @@ use Rattle.reasons.specs.declared.Asked.{Asked}
 use Rattle.reasons.specs.declared.Asked.the-variants.{Nothing, Why}
 use Rattle.rulings.specs.declared.answers.Answer.{Answer}
 use Rattle.rulings.specs.Answers.{refusalTold}
-use Rattle.rulings.specs.Rules.{document01}
-use Rattle.gateway.specs.Calls.{State, After, started}
+use Rattle.rulings.specs.Rules.{Rules, rulesOf}
+use Rattle.gateway.specs.Calls.{State, After, coldPlacing, started}
 use Rattle.frames.specs.Frames.{frameJudged, frameExplained}
 use Rattle.replay.specs.declared.Judgement.{Judgement}
 use Rattle.replay.specs.declared.Step.{Step}
@@ -33,14 +35,17 @@ plantList = 192 ∷ (168 ∷ (0 ∷ (0 ∷ (16 ∷ []))))
 -- "with factory settings", and document 02, K2: "the factory T becomes 5. Callers that took ten by default name it themselves: the printing
 -- program and the writer of K1, whose stored outputs stay."
 abbrev pub programSettings : Settings
-programSettings =
-    record {
-      threshold = 10;
-      floor = factorySettings .floor;
-      dmiss = factorySettings .dmiss;
-      dconn = factorySettings .dconn;
-      keys = factorySettings .keys;
-    }
+programSettings = withThreshold 10 factorySettings
+
+-- what its calls after the start go by: the limits, the rules of these limits, and what places packets in its tables, as the start leaves it
+abbrev pub programLimits : Limits
+programLimits = programSettings .limits
+
+abbrev pub programRules : Rules
+programRules = rulesOf programLimits
+
+abbrev pub programPlacing : Placing
+programPlacing = coldPlacing programSettings
 
 -- it "starts cold at the first record's second"
 unfoldable pub startedFirst : Bool → ℕ → State → State
@@ -49,11 +54,11 @@ startedFirst first time before = cond first (started programSettings time before
 -- a whole record's frame, judged at the record's second
 unfoldable pub recordJudged : Bool → List ℕ → Record → State → After Answer
 recordJudged first bytes r before =
-    frameJudged document01 programSettings cellList plantList (r .seconds) (bytesOf bytes r) (startedFirst first (r .seconds) before)
+    frameJudged programRules programLimits cellList plantList (r .seconds) (bytesOf bytes r) (startedFirst first (r .seconds) before)
 
 -- "The tool judges by the tables as they would stand at the packet's second": of a frame, where it is asked
 unfoldable pub askedOf : Bool → ℕ → List ℕ → State → Asked
-askedOf asks time frame before = cond asks (Why (frameExplained document01 programSettings cellList plantList time frame before)) Nothing
+askedOf asks time frame before = cond asks (Why (frameExplained programRules programLimits cellList plantList time frame before)) Nothing
 
 -- of a whole record, before it is judged
 abbrev pub recordAsked : Bool → Bool → List ℕ → Record → State → Asked

@@ -2,13 +2,15 @@
 ghost use mathlib.Core.Path.{_≡_};
 ghost use Prim.Native.Nat.{_≤_};
 ghost use lib.ListN.{length};
-ghost use Rattle.gateway.specs.Calls.{afterOf, stateOf};
-ghost use Rattle.replay.specs.Replay.{programSettings, startedFirst, askedOf, judgementOf, stepped};
+ghost use Rattle.gateway.specs.Calls.{lent, leftState, left};
+ghost use Rattle.replay.specs.Replay.{programSettings, programLimits, programPlacing, startedFirst, askedOf, judgementOf, stepped};
 use capture::Cursor;
 use capture::Reading;
 use capture::Record;
+use places::Placing;
 use reasons::Asked;
 use rulings::answers::Answer;
+use settings::Limits;
 use settings::Settings;
 
 const CELL: [u8; 5] = [10, 0, 0, 0, 8];
@@ -41,9 +43,24 @@ struct Judgement {
 fn program_settings() -> Settings
     ensures { λ r. ⌜ r ≡ programSettings ⌝ }
 {
-    let mut set = Settings::factory();
-    set.threshold = T;
-    set
+    Settings::factory().with_threshold(T)
+}
+
+// Their limits, for the calls after the start.
+fn program_limits() -> Limits
+    ensures { λ r. ⌜ r ≡ programLimits ⌝ }
+{
+    let set = program_settings();
+    set.limits
+}
+
+// What places packets in their tables: the one start is cold, and leaves the keys of the settings.
+fn program_placing() -> Placing
+    ensures { λ r. ⌜ r ≡ programPlacing ⌝ }
+{
+    let set = program_settings();
+    let keys = set.keys;
+    Placing { keys }
 }
 
 // Starts cold at the first record's second.
@@ -55,8 +72,8 @@ fn start_first(
     clock: &mut u32,
     time: u32,
 )
-    ensures { λ _. ⌜ stateOf (now (records .exit)) (now (tags .exit)) (now (counts .exit)) (now (clock .exit))
-        ≡ startedFirst «is_first» time (stateOf (now (records .entry)) (now (tags .entry)) (now (counts .entry)) (now (clock .entry))) ⌝ }
+    ensures { λ _. ⌜ leftState programPlacing records tags counts clock
+        ≡ startedFirst «is_first» time (lent programPlacing records tags counts clock) ⌝ }
 {
     if is_first {
         gateway::cold_start(program_settings(), records, tags, counts, clock, time);
@@ -73,12 +90,12 @@ fn ask(
     time: u32,
     frame: &[u8],
 ) -> Asked
-    ensures { λ r. ⌜ r ≡ askedOf asks time (now (frame .entry))
-        (stateOf (now (records .entry)) (now (tags .entry)) (now (counts .entry)) (now (clock .entry))) ⌝ }
+    ensures { λ r. ⌜ r ≡ askedOf asks time (now (frame .entry)) (lent programPlacing records tags counts clock) ⌝ }
 {
     if asks {
         return Asked::Why(frames::why(
-            program_settings(),
+            program_limits(),
+            program_placing(),
             &CELL,
             &PLANT,
             records,
@@ -104,9 +121,8 @@ fn judge_record(
     clock: &mut u32,
 ) -> Judgement
     requires { ⌜ (read .from ≤ read .end) × (read .end ≤ length (now bytes)) ⌝ }
-    ensures { λ r. ⌜ afterOf r (now (records .exit)) (now (tags .exit)) (now (counts .exit)) (now (clock .exit))
-        ≡ judgementOf asks «is_first» (now (bytes .entry)) read
-        (stateOf (now (records .entry)) (now (tags .entry)) (now (counts .entry)) (now (clock .entry))) ⌝ }
+    ensures { λ r. ⌜ left programPlacing records tags counts clock r
+        ≡ judgementOf asks «is_first» (now (bytes .entry)) read (lent programPlacing records tags counts clock) ⌝ }
 {
     let time = read.seconds;
     let from = read.from;
@@ -115,7 +131,8 @@ fn judge_record(
     let frame = &bytes[from..end];
     let asked = ask(asks, records, tags, counts, clock, time, frame);
     let answer = frames::judge(
-        program_settings(),
+        program_limits(),
+        program_placing(),
         &CELL,
         &PLANT,
         records,
@@ -140,9 +157,8 @@ pub fn next(
     counts: &mut [i16],
     clock: &mut u32,
 ) -> Step
-    ensures { λ r. ⌜ afterOf r (now (records .exit)) (now (tags .exit)) (now (counts .exit)) (now (clock .exit))
-        ≡ stepped asks «is_first» (now (bytes .entry)) cursor
-        (stateOf (now (records .entry)) (now (tags .entry)) (now (counts .entry)) (now (clock .entry))) ⌝ }
+    ensures { λ r. ⌜ left programPlacing records tags counts clock r
+        ≡ stepped asks «is_first» (now (bytes .entry)) cursor (lent programPlacing records tags counts clock) ⌝ }
 {
     match capture::next(bytes, cursor) {
         Reading::End => Step::End,

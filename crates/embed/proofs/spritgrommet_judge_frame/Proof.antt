@@ -3,7 +3,7 @@
 use mathlib.Core.Path.{sym, ap, _∙_}
 use denote.Ref.{now}
 use Rattle.gateway.specs.Calls.{stateOf}
-use Rattle.rulings.specs.Rules.{document01}
+use Rattle.rulings.specs.Rules.{rulesOf}
 use Rattle.frames.proofs.Cases.{has-header, by-inside, all-from}
 use Rattle.embed.specs.Plain.{plainly, plainAnswer}
 use borrow.Author.Needs.{needs}
@@ -22,14 +22,14 @@ of-answer-requires c κs = search needs
 enum-told-2 : tie.Need-enum-told-2
 enum-told-2 c = search needs
 
-sub-packet : tie.Need-sub-packet
-sub-packet c = has-header _ (sym (c .before .before .what-is-in .ensures) ∙ c .enum-told2 .given .1)
+sub-carried : tie.Need-sub-carried
+sub-carried c = has-header _ (sym (c .before .before .what-is-in .ensures) ∙ c .enum-told2 .given .1)
 
-part-packet-start : tie.Need-part-packet-start
-part-packet-start c = has-header _ (sym (c .before .before .what-is-in .ensures) ∙ c .enum-told2 .given .1)
+part-carried-start : tie.Need-part-carried-start
+part-carried-start c = has-header _ (sym (c .before .before .what-is-in .ensures) ∙ c .enum-told2 .given .1)
 
-part-packet-end : tie.Need-part-packet-end
-part-packet-end c = search needs
+part-carried-end : tie.Need-part-carried-end
+part-carried-end c = search needs
 
 spritgrommet-judge-requires : tie.Need-spritgrommet-judge-requires
 spritgrommet-judge-requires c κs = search needs
@@ -45,8 +45,8 @@ returns c =
     let s = c .before .before .before .before .before .before .before .before .before in
     rw (c .of-answer .ensures)
     (ap (plainly plainAnswer)
-    (by-inside (now (s .args .frame)) document01 (s .args .set) (now (s .args .cell)) (now (s .args .plant)) (s .args .time)
-    (stateOf (now (s .args .records)) (now (s .args .tags)) (now (s .args .counts)) (now (s .args .clock)))
+    (by-inside (now (s .args .frame)) (rulesOf (s .args .limits)) (s .args .limits) (now (s .args .cell)) (now (s .args .plant)) (s .args .time)
+    (stateOf (s .args .placing) (now (s .args .records)) (now (s .args .tags)) (now (s .args .counts)) (now (s .args .clock)))
     (sym (c .before .enum-told .given .1) ∙ c .before .before .before .what-is-in .ensures)))
 
 same-length : tie.Need-same-length
@@ -65,8 +65,8 @@ returns-2 c =
     let s = t .before .before .before .before .before .before .before .before in
     (rw (all-from 14 (s .args .frame .now)) at (j .spritgrommet-judge .ensures)) ∙
     (ap (plainly plainAnswer)
-    (by-inside (now (s .args .frame)) document01 (s .args .set) (now (s .args .cell)) (now (s .args .plant)) (s .args .time)
-    (stateOf (now (s .args .records)) (now (s .args .tags)) (now (s .args .counts)) (now (s .args .clock)))
+    (by-inside (now (s .args .frame)) (rulesOf (s .args .limits)) (s .args .limits) (now (s .args .cell)) (now (s .args .plant)) (s .args .time)
+    (stateOf (s .args .placing) (now (s .args .records)) (now (s .args .tags)) (now (s .args .counts)) (now (s .args .clock)))
     (sym (t .enum-told2 .given .1) ∙ t .before .before .what-is-in .ensures)))
 
 returns-3 : tie.Need-returns-3
@@ -74,8 +74,8 @@ returns-3 c =
     let s = c .before .before .before .before .before .before .before .before .before in
     rw (c .of-answer2 .ensures)
     (ap (plainly plainAnswer)
-    (by-inside (now (s .args .frame)) document01 (s .args .set) (now (s .args .cell)) (now (s .args .plant)) (s .args .time)
-    (stateOf (now (s .args .records)) (now (s .args .tags)) (now (s .args .counts)) (now (s .args .clock)))
+    (by-inside (now (s .args .frame)) (rulesOf (s .args .limits)) (s .args .limits) (now (s .args .cell)) (now (s .args .plant)) (s .args .time)
+    (stateOf (s .args .placing) (now (s .args .records)) (now (s .args .tags)) (now (s .args .counts)) (now (s .args .clock)))
     (sym (c .before .enum-told3 .given .1) ∙ c .before .before .before .what-is-in .ensures)))
 
 pub spritgrommet-judge-frame-spec : {M : Type 1} → statement M
@@ -86,9 +86,9 @@ spritgrommet-judge-frame-spec =
     enum-told
     of-answer-requires
     enum-told-2
-    sub-packet
-    part-packet-start
-    part-packet-end
+    sub-carried
+    part-carried-start
+    part-carried-end
     spritgrommet-judge-requires
     enum-told-3
     of-answer-requires-2

@@ -4,7 +4,7 @@ use mathlib.Core.Path.{sym, _∙_}
 use denote.Ref.{now}
 use borrow.Author.Needs.{needs}
 use Rattle.gateway.specs.Calls.{stateOf}
-use Rattle.rulings.specs.Rules.{document01}
+use Rattle.rulings.specs.Rules.{rulesOf}
 use Rattle.frames.proofs.Cases.{has-header, why-inside, all-from}
 use Rattle.frames.proofs.why.Statement.{statement}
 use Rattle.frames.proofs.why.Tie as tie
@@ -37,8 +37,8 @@ returns : tie.Need-returns
 returns c =
     let w = c .before .before in
     let s = w .before .before .before .before .before .before in
-    why-inside (now (s .args .frame)) document01 (s .args .set) (now (s .args .cell)) (now (s .args .plant)) (s .args .time)
-    (stateOf (now (s .args .records)) (now (s .args .tags)) (now (s .args .counts)) (now (s .args .clock)))
+    why-inside (now (s .args .frame)) (rulesOf (s .args .limits)) (s .args .limits) (now (s .args .cell)) (now (s .args .plant)) (s .args .time)
+    (stateOf (s .args .placing) (now (s .args .records)) (now (s .args .tags)) (now (s .args .counts)) (now (s .args .clock)))
     (sym (c .enum-told .given .1) ∙ w .what-is-in .ensures)
 
 returns-2 : tie.Need-returns-2
@@ -47,16 +47,16 @@ returns-2 c =
     let w = t .before .before in
     let s = w .before .before .before .before .before .before in
     (rw (all-from 14 (s .args .frame .now)) at (c .why .ensures))
-    ∙ why-inside (now (s .args .frame)) document01 (s .args .set) (now (s .args .cell)) (now (s .args .plant)) (s .args .time)
-    (stateOf (now (s .args .records)) (now (s .args .tags)) (now (s .args .counts)) (now (s .args .clock)))
+    ∙ why-inside (now (s .args .frame)) (rulesOf (s .args .limits)) (s .args .limits) (now (s .args .cell)) (now (s .args .plant)) (s .args .time)
+    (stateOf (s .args .placing) (now (s .args .records)) (now (s .args .tags)) (now (s .args .counts)) (now (s .args .clock)))
     (sym (t .enum-told2 .given .1) ∙ w .what-is-in .ensures)
 
 returns-3 : tie.Need-returns-3
 returns-3 c =
     let w = c .before .before in
     let s = w .before .before .before .before .before .before in
-    why-inside (now (s .args .frame)) document01 (s .args .set) (now (s .args .cell)) (now (s .args .plant)) (s .args .time)
-    (stateOf (now (s .args .records)) (now (s .args .tags)) (now (s .args .counts)) (now (s .args .clock)))
+    why-inside (now (s .args .frame)) (rulesOf (s .args .limits)) (s .args .limits) (now (s .args .cell)) (now (s .args .plant)) (s .args .time)
+    (stateOf (s .args .placing) (now (s .args .records)) (now (s .args .tags)) (now (s .args .counts)) (now (s .args .clock)))
     (sym (c .enum-told3 .given .1) ∙ w .what-is-in .ensures)
 
 pub why-spec : {M : Type 1} → statement M

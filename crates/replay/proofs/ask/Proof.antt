@@ -2,13 +2,17 @@
 -- Assumes nothing.
 use denote.Ref.{now}
 use Rattle.gateway.specs.Calls.{stateOf}
+use Rattle.replay.specs.Replay.{programPlacing}
 use Rattle.replay.proofs.Cases.{is-asked, not-asked}
 use borrow.Author.Needs.{needs}
 use Rattle.replay.proofs.ask.Statement.{statement}
 use Rattle.replay.proofs.ask.Tie as tie
 
-program-settings-requires : tie.Need-program-settings-requires
-program-settings-requires c κs = search needs
+program-limits-requires : tie.Need-program-limits-requires
+program-limits-requires c κs = search needs
+
+program-placing-requires : tie.Need-program-placing-requires
+program-placing-requires c κs = search needs
 
 slice-aggregate-why : tie.Need-slice-aggregate-why
 slice-aggregate-why c = search needs
@@ -21,22 +25,27 @@ why-requires c κs = search needs
 
 returns : tie.Need-returns
 returns c =
-    let s = c .before .before .before .before .before .before .before .before in
-    rw (c .before .before .before .before .if1 .taken)
-    (is-asked (s .args .time) (now (s .args .frame)) (stateOf (now (s .args .records)) (now (s .args .tags)) (now (s .args .counts)) (now (s .args .clock))) _ _
-    (c .before .before .before .program-settings .ensures) (c .why .ensures))
+    let p = c .before .before .before in
+    let l = p .before in
+    let i = l .before in
+    let s = i .before .before .before .before in
+    rw (i .if1 .taken)
+    (is-asked (s .args .time) (now (s .args .frame))
+    (stateOf programPlacing (now (s .args .records)) (now (s .args .tags)) (now (s .args .counts)) (now (s .args .clock))) _
+    (rw (l .program-limits .ensures, p .program-placing .ensures) at (c .why .ensures)))
 
 returns-2 : tie.Need-returns-2
 returns-2 c =
     let s = c .before .before .before .before in
     rw (c .if1 .left)
-    (not-asked (s .args .time) (now (s .args .frame)) (stateOf (now (s .args .records)) (now (s .args .tags)) (now (s .args .counts)) (now (s .args .clock))))
+    (not-asked (s .args .time) (now (s .args .frame)) (stateOf programPlacing (now (s .args .records)) (now (s .args .tags)) (now (s .args .counts)) (now (s .args .clock))))
 
 pub ask-spec : {M : Type 1} → statement M
 ask-spec =
     tie.close
     (tie.spec
-    program-settings-requires
+    program-limits-requires
+    program-placing-requires
     slice-aggregate-why
     slice-aggregate-why-2
     why-requires

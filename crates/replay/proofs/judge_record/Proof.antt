@@ -20,8 +20,11 @@ part-frame-end c = search needs
 ask-requires : tie.Need-ask-requires
 ask-requires c κs = search needs
 
-program-settings-requires : tie.Need-program-settings-requires
-program-settings-requires c κs = search needs
+program-limits-requires : tie.Need-program-limits-requires
+program-limits-requires c κs = search needs
+
+program-placing-requires : tie.Need-program-placing-requires
+program-placing-requires c κs = search needs
 
 slice-aggregate-judge : tie.Need-slice-aggregate-judge
 slice-aggregate-judge c = search needs
@@ -43,9 +46,14 @@ same-length-3 c = search needs
 
 returns : tie.Need-returns
 returns c =
-    let s = c .before .before .before .before .before .before .before .before .before .before .before .before .before .before .before .before .before .before .before .before .before .before .before .before .before .before .before .before .before .before .before .before in
-    judged-as (s .args .asks) (s .args .is-first) _ (s .args .read) _ _ _ _ _ _
-    (c .before .before .before .before .before .before .before .before .before .before .before .before .program-settings .ensures) (c .before .before .before .before .before .before .before .before .before .before .before .before .before .before .before .before .before .before .before .before .before .before .before .before .start-first .ensures) (c .before .before .before .before .before .before .before .before .before .before .before .before .before .ask .ensures) (c .before .before .before .before .before .judge .ensures)
+    let j = c .before .before .before .before .before in
+    let p = j .before .before .before .before .before .before .before in
+    let l = p .before in
+    let a = l .before in
+    let f = a .before .before .before .before .before .before .before .before .before .before .before in
+    let s = f .before .before .before .before .before .before .before .before in
+    judged-as (s .args .asks) (s .args .is-first) _ (s .args .read) _ _ _ _ _ (f .start-first .ensures) (a .ask .ensures)
+    (rw (l .program-limits .ensures, p .program-placing .ensures) at (j .judge .ensures))
 
 pub judge-record-spec : {M : Type 1} → statement M
 judge-record-spec =
@@ -56,7 +64,8 @@ judge-record-spec =
     part-frame-start
     part-frame-end
     ask-requires
-    program-settings-requires
+    program-limits-requires
+    program-placing-requires
     slice-aggregate-judge
     slice-aggregate-judge-2
     judge-requires

@@ -7,8 +7,11 @@ use Rattle.replay.proofs.program_settings.Tie as tie
 factory-requires : tie.Need-factory-requires
 factory-requires c κs = search needs
 
+with-threshold-requires : tie.Need-with-threshold-requires
+with-threshold-requires c κs = search needs
+
 returns : tie.Need-returns
-returns c = rw (c .factory .ensures .0)
+returns c = rw (c .with-threshold .ensures, c .before .factory .ensures .0)
 
 pub program-settings-spec : {M : Type 1} → statement M
-program-settings-spec = tie.close (tie.spec factory-requires returns)
+program-settings-spec = tie.close (tie.spec factory-requires with-threshold-requires returns)

@@ -23,7 +23,7 @@ same-length-3 c = search needs
 
 returns : tie.Need-returns
 returns c = rw (c .before .before .before .before .before .before .before .before .before .before .before .if1 .taken)
-    (first _ _ _ _ (c .before .before .before .before .before .before .before .before .before .before .program-settings .ensures) (c .before .before .before .before .before .cold-start .ensures))
+    (first _ _ _ _ _ (c .before .before .before .before .before .before .before .before .before .before .program-settings .ensures) (c .before .before .before .before .before .cold-start .ensures))
 
 returns-2 : tie.Need-returns-2
 returns-2 c = rw (c .if1 .left) (sym (further _ _))
