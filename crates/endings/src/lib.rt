@@ -1,6 +1,6 @@
 // The lines in which a program that replays a capture says how it ended, put into lent room from a place on.
 ghost use mathlib.Core.Path.{_≡_};
-ghost use Rattle.lines.specs.Room.{roomOf, put};
+ghost use Rattle.lines.specs.Room.{lentRoom, leftRoom, put};
 ghost use Rattle.endings.specs.Endings.{oneMore, ending, headerRefused};
 use rulings::answers::Answer;
 
@@ -20,7 +20,7 @@ pub fn put_ending(
     refusals: u64,
     is_refused: bool,
 ) -> usize
-    ensures { λ r. ⌜ roomOf r (now (room .exit)) ≡ put (ending «is_refused» records refusals) (roomOf at (now (room .entry))) ⌝ }
+    ensures { λ r. ⌜ leftRoom room r ≡ put (ending «is_refused» records refusals) (lentRoom room at) ⌝ }
 {
     if is_refused {
         let next = lines::put_line(room, at, one_more(records), Answer::Refused(8));
@@ -31,7 +31,7 @@ pub fn put_ending(
 
 // Puts all that is printed of a capture whose header is refused, and answers the place after it in the room.
 pub fn put_refused_header(room: &mut [u8], at: usize, number: u8) -> usize
-    ensures { λ r. ⌜ roomOf r (now (room .exit)) ≡ put (headerRefused number) (roomOf at (now (room .entry))) ⌝ }
+    ensures { λ r. ⌜ leftRoom room r ≡ put (headerRefused number) (lentRoom room at) ⌝ }
 {
     let next = lines::put_line(room, at, 0, Answer::Refused(number));
     lines::put_last_line(room, next, 0, 1)

@@ -3,7 +3,7 @@
 ghost use mathlib.Core.Path.{_≡_};
 ghost use mathlib.Core.Bool.{cond, false};
 ghost use mathlib.Core.List.{[]};
-ghost use Rattle.lines.specs.Room.{roomOf, put};
+ghost use Rattle.lines.specs.Room.{lentRoom, leftRoom, put};
 ghost use Rattle.explanations.specs.Values.{kindWord, kindWords, isBlocking, kindsThatPass, portWord, portWords, hasPorts, entryText, valueOf, letterText, filled};
 ghost use Rattle.explanations.specs.Explanations.{ofFacts, firstLine, whoAndWhom, byPlantMark, situation, waysThrough, dropText, forwardedText, refusedWords, refusedText, explanationText, isDrop, isTold, askedText};
 use packet::Header;
@@ -23,7 +23,7 @@ struct Report {
 
 // The kind in a word.
 fn put_kind_word(room: &mut [u8], at: usize, kind: Kind) -> usize
-    ensures { λ r. ⌜ roomOf r (now (room .exit)) ≡ put (kindWord kind) (roomOf at (now (room .entry))) ⌝ }
+    ensures { λ r. ⌜ leftRoom room r ≡ put (kindWord kind) (lentRoom room at) ⌝ }
 {
     match kind {
         Kind::Udp => lines::put_text(room, at, b"udp"),
@@ -36,7 +36,7 @@ fn put_kind_word(room: &mut [u8], at: usize, kind: Kind) -> usize
 
 // The kind in words.
 fn put_kind_words(room: &mut [u8], at: usize, kind: Kind) -> usize
-    ensures { λ r. ⌜ roomOf r (now (room .exit)) ≡ put (kindWords kind) (roomOf at (now (room .entry))) ⌝ }
+    ensures { λ r. ⌜ leftRoom room r ≡ put (kindWords kind) (lentRoom room at) ⌝ }
 {
     match kind {
         Kind::Udp => lines::put_text(room, at, b"a UDP packet"),
@@ -63,7 +63,7 @@ fn is_blocking(verdict: Verdict) -> bool
 
 // The kinds that would have been forwarded, where the kind is reported.
 fn put_kinds(room: &mut [u8], at: usize, verdict: Verdict) -> usize
-    ensures { λ r. ⌜ roomOf r (now (room .exit)) ≡ put (kindsThatPass (isBlocking verdict)) (roomOf at (now (room .entry))) ⌝ }
+    ensures { λ r. ⌜ leftRoom room r ≡ put (kindsThatPass (isBlocking verdict)) (lentRoom room at) ⌝ }
 {
     if is_blocking(verdict) {
         return lines::put_text(room, at, b"SYN+ACK, closing or plain");
@@ -80,7 +80,7 @@ fn has_ports(header: Header) -> bool
 
 // A port in the first line, or "-".
 fn put_port_word(room: &mut [u8], at: usize, has_ports: bool, port: u16) -> usize
-    ensures { λ r. ⌜ roomOf r (now (room .exit)) ≡ put (portWord «has_ports» port) (roomOf at (now (room .entry))) ⌝ }
+    ensures { λ r. ⌜ leftRoom room r ≡ put (portWord «has_ports» port) (lentRoom room at) ⌝ }
 {
     if has_ports {
         return lines::put_decimal(room, at, port as u64);
@@ -90,7 +90,7 @@ fn put_port_word(room: &mut [u8], at: usize, has_ports: bool, port: u16) -> usiz
 
 // A port in a sentence, or nothing.
 fn put_port_words(room: &mut [u8], at: usize, has_ports: bool, port: u16) -> usize
-    ensures { λ r. ⌜ roomOf r (now (room .exit)) ≡ put (portWords «has_ports» port) (roomOf at (now (room .entry))) ⌝ }
+    ensures { λ r. ⌜ leftRoom room r ≡ put (portWords «has_ports» port) (lentRoom room at) ⌝ }
 {
     if has_ports {
         let next = lines::put_text(room, at, b" port ");
@@ -101,7 +101,7 @@ fn put_port_words(room: &mut [u8], at: usize, has_ports: bool, port: u16) -> usi
 
 // An entry of a side list: its address in dotted form, and its prefix length behind a slash.
 fn put_entry(room: &mut [u8], at: usize, entry: Entry) -> usize
-    ensures { λ r. ⌜ roomOf r (now (room .exit)) ≡ put (entryText entry) (roomOf at (now (room .entry))) ⌝ }
+    ensures { λ r. ⌜ leftRoom room r ≡ put (entryText entry) (lentRoom room at) ⌝ }
 {
     let next = lines::put_dotted(room, at, entry.address);
     let next = lines::put_byte(room, next, b'/');
@@ -110,7 +110,7 @@ fn put_entry(room: &mut [u8], at: usize, entry: Entry) -> usize
 
 // What a letter stands for.
 fn put_value(room: &mut [u8], at: usize, letter: u8, report: Report) -> usize
-    ensures { λ r. ⌜ roomOf r (now (room .exit)) ≡ put (valueOf report letter) (roomOf at (now (room .entry))) ⌝ }
+    ensures { λ r. ⌜ leftRoom room r ≡ put (valueOf report letter) (lentRoom room at) ⌝ }
 {
     let drop = report.drop;
     let verdict = drop.verdict;
@@ -145,7 +145,7 @@ fn put_value(room: &mut [u8], at: usize, letter: u8, report: Report) -> usize
 
 // A byte of a text: behind "%" what the letter stands for, "%" itself left out, and any other as it is.
 fn put_letter(room: &mut [u8], at: usize, marked: bool, byte: u8, report: Report) -> usize
-    ensures { λ r. ⌜ roomOf r (now (room .exit)) ≡ put (letterText report marked byte) (roomOf at (now (room .entry))) ⌝ }
+    ensures { λ r. ⌜ leftRoom room r ≡ put (letterText report marked byte) (lentRoom room at) ⌝ }
 {
     if marked {
         return put_value(room, at, byte, report);
@@ -158,7 +158,7 @@ fn put_letter(room: &mut [u8], at: usize, marked: bool, byte: u8, report: Report
 
 // A text with its values.
 fn put_filled(room: &mut [u8], at: usize, text: &[u8], report: Report) -> usize
-    ensures { λ r. ⌜ roomOf r (now (room .exit)) ≡ put (filled report false (now (text .entry))) (roomOf at (now (room .entry))) ⌝ }
+    ensures { λ r. ⌜ leftRoom room r ≡ put (filled report false (now (text .entry))) (lentRoom room at) ⌝ }
 {
     let mut next = at;
     let mut marked = false;
@@ -174,7 +174,7 @@ fn put_filled(room: &mut [u8], at: usize, text: &[u8], report: Report) -> usize
 
 // A text with its values, where it is to stand.
 fn put_if(room: &mut [u8], at: usize, told: bool, text: &[u8], report: Report) -> usize
-    ensures { λ r. ⌜ roomOf r (now (room .exit)) ≡ put (cond told (filled report false (now (text .entry))) []) (roomOf at (now (room .entry))) ⌝ }
+    ensures { λ r. ⌜ leftRoom room r ≡ put (cond told (filled report false (now (text .entry))) []) (lentRoom room at) ⌝ }
 {
     if told {
         return put_filled(room, at, text, report);
@@ -192,8 +192,8 @@ fn put_facts(
     kind: &[u8],
     report: Report,
 ) -> usize
-    ensures { λ r. ⌜ roomOf r (now (room .exit))
-        ≡ put (ofFacts report (now (count .entry)) (now (plant .entry)) (now (cell .entry)) (now (kind .entry))) (roomOf at (now (room .entry))) ⌝ }
+    ensures { λ r. ⌜ leftRoom room r
+        ≡ put (ofFacts report (now (count .entry)) (now (plant .entry)) (now (cell .entry)) (now (kind .entry))) (lentRoom room at) ⌝ }
 {
     let drop = report.drop;
     let reported = drop.reported;
@@ -205,7 +205,7 @@ fn put_facts(
 
 // The first line, for machines.
 fn put_first_line(room: &mut [u8], at: usize, report: Report) -> usize
-    ensures { λ r. ⌜ roomOf r (now (room .exit)) ≡ put (firstLine report) (roomOf at (now (room .entry))) ⌝ }
+    ensures { λ r. ⌜ leftRoom room r ≡ put (firstLine report) (lentRoom room at) ⌝ }
 {
     let next = put_filled(room, at, b"%n %v %c %t %s %a %p %b %q %i %k %e %f", report);
     let next = put_facts(
@@ -222,7 +222,7 @@ fn put_first_line(room: &mut [u8], at: usize, report: Report) -> usize
 
 // Who sent what to whom, and which entries made it ours.
 fn put_who_and_whom(room: &mut [u8], at: usize, report: Report) -> usize
-    ensures { λ r. ⌜ roomOf r (now (room .exit)) ≡ put (whoAndWhom report) (roomOf at (now (room .entry))) ⌝ }
+    ensures { λ r. ⌜ leftRoom room r ≡ put (whoAndWhom report) (lentRoom room at) ⌝ }
 {
     let next = put_filled(room, at, b"  %a%P sent %K to %b%Q at second %s.\n", report);
     put_filled(
@@ -235,7 +235,7 @@ fn put_who_and_whom(room: &mut [u8], at: usize, report: Report) -> usize
 
 // What the plant-to-cell mark says to a blocked machine.
 fn put_by_plant_mark(room: &mut [u8], at: usize, mark: bool, report: Report) -> usize
-    ensures { λ r. ⌜ roomOf r (now (room .exit)) ≡ put (byPlantMark report mark) (roomOf at (now (room .entry))) ⌝ }
+    ensures { λ r. ⌜ leftRoom room r ≡ put (byPlantMark report mark) (lentRoom room at) ⌝ }
 {
     if mark {
         return put_filled(
@@ -255,7 +255,7 @@ fn put_by_plant_mark(room: &mut [u8], at: usize, mark: bool, report: Report) -> 
 
 // The verdict, and the count against T.
 fn put_situation(room: &mut [u8], at: usize, blocking: bool, report: Report) -> usize
-    ensures { λ r. ⌜ roomOf r (now (room .exit)) ≡ put (situation report blocking) (roomOf at (now (room .entry))) ⌝ }
+    ensures { λ r. ⌜ leftRoom room r ≡ put (situation report blocking) (lentRoom room at) ⌝ }
 {
     let drop = report.drop;
     let marks = drop.marks;
@@ -284,7 +284,7 @@ fn put_situation(room: &mut [u8], at: usize, blocking: bool, report: Report) -> 
 
 // What would have let it pass.
 fn put_ways_through(room: &mut [u8], at: usize, report: Report) -> usize
-    ensures { λ r. ⌜ roomOf r (now (room .exit)) ≡ put (waysThrough report) (roomOf at (now (room .entry))) ⌝ }
+    ensures { λ r. ⌜ leftRoom room r ≡ put (waysThrough report) (lentRoom room at) ⌝ }
 {
     let next = put_filled(
         room,
@@ -305,7 +305,7 @@ fn put_ways_through(room: &mut [u8], at: usize, report: Report) -> usize
 
 // All of a packet that was dropped.
 fn put_drop(room: &mut [u8], at: usize, report: Report) -> usize
-    ensures { λ r. ⌜ roomOf r (now (room .exit)) ≡ put (dropText report) (roomOf at (now (room .entry))) ⌝ }
+    ensures { λ r. ⌜ leftRoom room r ≡ put (dropText report) (lentRoom room at) ⌝ }
 {
     let drop = report.drop;
     let verdict = drop.verdict;
@@ -317,7 +317,7 @@ fn put_drop(room: &mut [u8], at: usize, report: Report) -> usize
 
 // A verdict alone.
 fn put_forwarded(room: &mut [u8], at: usize, verdict: Verdict) -> usize
-    ensures { λ r. ⌜ roomOf r (now (room .exit)) ≡ put (forwardedText verdict) (roomOf at (now (room .entry))) ⌝ }
+    ensures { λ r. ⌜ leftRoom room r ≡ put (forwardedText verdict) (lentRoom room at) ⌝ }
 {
     match verdict {
         Verdict::Uncounted => lines::put_text(
@@ -347,7 +347,7 @@ fn put_forwarded(room: &mut [u8], at: usize, verdict: Verdict) -> usize
 
 // What a refusal means.
 fn put_refused_words(room: &mut [u8], at: usize, number: u8) -> usize
-    ensures { λ r. ⌜ roomOf r (now (room .exit)) ≡ put (refusedWords number) (roomOf at (now (room .entry))) ⌝ }
+    ensures { λ r. ⌜ leftRoom room r ≡ put (refusedWords number) (lentRoom room at) ⌝ }
 {
     match number {
         4 => lines::put_text(
@@ -371,7 +371,7 @@ fn put_refused_words(room: &mut [u8], at: usize, number: u8) -> usize
 
 // A refusal.
 fn put_refused(room: &mut [u8], at: usize, number: u8) -> usize
-    ensures { λ r. ⌜ roomOf r (now (room .exit)) ≡ put (refusedText number) (roomOf at (now (room .entry))) ⌝ }
+    ensures { λ r. ⌜ leftRoom room r ≡ put (refusedText number) (lentRoom room at) ⌝ }
 {
     let next = lines::put_text(room, at, b" R ");
     let next = lines::put_decimal(room, next, number as u64);
@@ -386,7 +386,7 @@ fn put_explanation(
     seconds: u32,
     explanation: Explanation,
 ) -> usize
-    ensures { λ r. ⌜ roomOf r (now (room .exit)) ≡ put (explanationText number seconds explanation) (roomOf at (now (room .entry))) ⌝ }
+    ensures { λ r. ⌜ leftRoom room r ≡ put (explanationText number seconds explanation) (lentRoom room at) ⌝ }
 {
     match explanation {
         Explanation::Refused(refusal) => {
@@ -449,7 +449,7 @@ pub fn put_asked(
     seconds: u32,
     asked: Asked,
 ) -> usize
-    ensures { λ r. ⌜ roomOf r (now (room .exit)) ≡ put (askedText wanted number seconds asked) (roomOf at (now (room .entry))) ⌝ }
+    ensures { λ r. ⌜ leftRoom room r ≡ put (askedText wanted number seconds asked) (lentRoom room at) ⌝ }
 {
     match asked {
         Asked::Nothing => at,

@@ -16,10 +16,11 @@ use Rattle.laws.proofs.Signed.{leZ-true, sum-is, difference-is, one-part, size}
 use Rattle.words.specs.Words.{twoAt}
 use Rattle.words.specs.Layouts.{Bytes, two, four}
 use Rattle.words.proofs.Layouts.{in-range}
-use Rattle.settings.specs.declared.Settings.{Settings}
-use Rattle.settings.specs.Settings.{badSettings}
+use Rattle.settings.specs.declared.Limits.{Limits}
+use Rattle.settings.specs.Settings.{badLimits}
 use Rattle.permute.proofs.Inverse.{D-lt}
 use Rattle.places.specs.declared.Place.{Place}
+use Rattle.places.specs.declared.Placing.{Placing}
 use Rattle.places.specs.Places.{addressOf}
 use Rattle.sides.specs.declared.Direction.{Direction}
 use Rattle.sides.specs.declared.Direction.the-variants.{FromCell, FromPlant, NotOurs}
@@ -46,7 +47,7 @@ use Rattle.reasons.specs.declared.Explanation.the-variants as why
 use Rattle.rulings.specs.declared.Ruling.{Ruling}
 use Rattle.rulings.specs.declared.answers.Answer.{Answer}
 use Rattle.rulings.specs.declared.answers.Answer.the-variants as answer
-use Rattle.rulings.specs.Rules.{Rules, document01}
+use Rattle.rulings.specs.Rules.{Rules, slotRule, rulesOf}
 use Rattle.rulings.specs.Rulings.{countWritten, countedBy, verdictBy, rulingOf}
 use Rattle.lines.proofs.Whole.{InRange}
 use Rattle.explanations.proofs.Short.{DropSized, ExplanationSized}
@@ -153,17 +154,17 @@ count-short line tag tags counts all = go (lacksLine line (length tags) (length 
     go false false = none-short
 
 -- ---- a ruling, and what it leaves
-module _ (settings : Settings) (floor-short : Short (settings .floor)) where
+module _ (limits : Limits) (floor-short : Short (limits .floor)) where
   ruling-short : (h : Header) (fromPlant : Bool) (byte : ℕ) (count : ℤ) → Short count
-      → Short (rulingOf (document01 settings) h fromPlant byte count .count)
+      → Short (rulingOf (rulesOf limits) h fromPlant byte count .count)
   unfolding rulingOf countWritten
-  ruling-short h fromPlant byte count c = by (verdictBy (document01 settings) h fromPlant byte count) (isUnmarked (marksOf byte))
+  ruling-short h fromPlant byte count c = by (verdictBy (rulesOf limits) h fromPlant byte count) (isUnmarked (marksOf byte))
     where
       by : (verdict : Verdict) (unmarked : Bool)
-          → Short (countedBy count (countWritten (settings .floor) 1 1 (cond unmarked none none) verdict count) .count)
+          → Short (countedBy count (countWritten (limits .floor) 1 1 (cond unmarked none none) verdict count) .count)
       by Uncounted unmarked = c
-      by CreditOfOne unmarked = lowered-short 1 (settings .floor) count floor-short c
-      by CreditOfTwo unmarked = lowered-short 2 (settings .floor) count floor-short c
+      by CreditOfOne unmarked = lowered-short 1 (limits .floor) count floor-short c
+      by CreditOfTwo unmarked = lowered-short 2 (limits .floor) count floor-short c
       by FreshContact unmarked = raised-short 1 count c
       by Hygiene unmarked = c
       by Blocked true = c
@@ -195,27 +196,27 @@ module _ (settings : Settings) (floor-short : Short (settings .floor)) where
     told : InRange (after .answer)
     left : All Short (after .tables .counts)
 
-  ours-fit : (h : Header) (fromPlant : Bool) (before : Tables) → All Short (before .counts) → Fits (ours document01 settings h fromPlant before)
+  ours-fit : (placing : Placing) (h : Header) (fromPlant : Bool) (before : Tables) → All Short (before .counts) → Fits (ours (rulesOf limits) placing h fromPlant before)
   unfolding ours
-  ours-fit h fromPlant before all =
-      let spot = spotOf (document01 settings) (settings .keys) h fromPlant (length (before .records)) (length (before .tags)) in
-      let ruling : Ruling = rulingAt (document01 settings) h fromPlant spot before in
+  ours-fit placing h fromPlant before all =
+      let spot = spotOf slotRule placing h fromPlant (length (before .records)) (length (before .tags)) in
+      let ruling : Ruling = rulingAt (rulesOf limits) h fromPlant spot before in
       let c = ruling-short h fromPlant _ (countMet spot before) (count-short (spot .place .line) (spot .place .tag) (before .tags) (before .counts) all) in
       record {
         told =
-            judged-short (settings .keys) (spot .lines) (spot .place .line) (entered (spot .place) ruling (before .tags) (before .counts) .replaced)
+            judged-short (placing .keys) (spot .lines) (spot .place .line) (entered (spot .place) ruling (before .tags) (before .counts) .replaced)
             (ruling .verdict) (ruling .count) c;
         left = entered-short (spot .place) ruling (before .tags) (before .counts) c all;
       }
 
-  all-fit : (h : Header) (direction : Direction) (before : Tables) → All Short (before .counts) → Fits (byDirection document01 settings h direction before)
+  all-fit : (placing : Placing) (h : Header) (direction : Direction) (before : Tables) → All Short (before .counts) → Fits (byDirection (rulesOf limits) placing h direction before)
   unfolding byDirection
-  all-fit h FromCell before all = ours-fit h false before all
-  all-fit h FromPlant before all = ours-fit h true before all
-  all-fit h NotOurs before all = record { told = tt; left = all }
+  all-fit placing h FromCell before all = ours-fit placing h false before all
+  all-fit placing h FromPlant before all = ours-fit placing h true before all
+  all-fit placing h NotOurs before all = record { told = tt; left = all }
 
   onward-short : (time : ℕ) (before : State) → All Short (before .tables .counts)
-      → All Short (onward (document01 settings .point) settings time before .tables .counts)
+      → All Short (onward (rulesOf limits .point) limits time before .tables .counts)
   unfolding timePassed
   onward-short time before all = all-mapped Short (decayedBy _) (decayed-short _) (before .tables .counts) all
 
@@ -224,7 +225,7 @@ or-few : (n m : ℕ) → n < 10 → m < 10 → numberOr n m < 10
 or-few zero m h g = g
 or-few (suc n) m h g = h
 
-module _ (settings : Settings) (cell plant : List ℕ) (time : ℕ) (bytes : List ℕ) (before : State) where
+module _ (limits : Limits) (cell plant : List ℕ) (time : ℕ) (bytes : List ℕ) (before : State) where
   early-few : (a b c d : Bool) → firstRefusal ((1, a) ∷ (2, b) ∷ (3, c) ∷ (4, d) ∷ []) < 10
   early-few true b c d = omega arith
   early-few false true c d = omega arith
@@ -239,14 +240,14 @@ module _ (settings : Settings) (cell plant : List ℕ) (time : ℕ) (bytes : Lis
   header-few false false false true = omega arith
   header-few false false false false = omega arith
 
-  refusal-few : packetRefusal settings cell plant time bytes before < 10
+  refusal-few : packetRefusal limits cell plant time bytes before < 10
   unfolding earlyRefusal headerRefusal
   refusal-few =
       or-few
-      (bySizes (earlyRefusal settings) (before .tables) cell plant (before .clock) time)
+      (bySizes (earlyRefusal limits) (before .tables) cell plant (before .clock) time)
       (headerRefusal bytes)
       (early-few
-      (badSettings settings)
+      (badLimits limits)
       (bySizes badSizes (before .tables))
       (badList cell || badList plant)
       (ltb time (before .clock)))
@@ -257,21 +258,21 @@ module _ (settings : Settings) (cell plant : List ℕ) (time : ℕ) (bytes : Lis
       (ltb (usable bytes) (headerLength bytes + needed (protocol bytes) (later bytes))))
 
 -- ---- the call
-module _ (settings : Settings) (floor-short : Short (settings .floor)) (cell plant : List ℕ) (time : ℕ) (bytes : List ℕ) (before : State)
+module _ (limits : Limits) (floor-short : Short (limits .floor)) (cell plant : List ℕ) (time : ℕ) (bytes : List ℕ) (before : State)
     (all : All Short (before .tables .counts)) where
-  unless-fits : (after : After Answer) → Ranged settings floor-short after → (number : ℕ) → number < 10
-      → Ranged settings floor-short (unlessRefused answer.Refused number before after)
+  unless-fits : (after : After Answer) → Ranged limits floor-short after → (number : ℕ) → number < 10
+      → Ranged limits floor-short (unlessRefused answer.Refused number before after)
   unless-fits after fits zero few = fits
   unless-fits after fits (suc n) few = record { in-its-range = omega (arith, few); counts-short = all }
 
-  pub judged-fits : Ranged settings floor-short (judged document01 settings cell plant time bytes before)
+  pub judged-fits : Ranged limits floor-short (judged (rulesOf limits) limits cell plant time bytes before)
   unfolding judged
   judged-fits =
       let h : Header = headerOf bytes in
-      let done = all-fit settings floor-short h (directionIn cell plant h) _ (onward-short settings floor-short time before all) in
-      unless-fits (accepted document01 settings h (directionIn cell plant h) time before)
+      let done = all-fit limits floor-short (before .placing) h (directionIn cell plant h) _ (onward-short limits floor-short time before all) in
+      unless-fits (accepted (rulesOf limits) limits h (directionIn cell plant h) time before)
       (record { in-its-range = done .told; counts-short = done .left })
-      (packetRefusal settings cell plant time bytes before) (refusal-few settings cell plant time bytes before)
+      (packetRefusal limits cell plant time bytes before) (refusal-few limits cell plant time bytes before)
 
 -- ---- the question why
 -- a part of a list of bytes is one
@@ -287,7 +288,7 @@ byte-taken (x ∷ l) bytes (suc n) (suc k) = byte-taken l (λ j. bytes (suc j)) 
 pub bytes-taken : (l : List ℕ) → Bytes l → (n : ℕ) → Bytes (take n l)
 bytes-taken l bytes n = λ k. byte-taken l bytes n k
 
-module _ (settings : Settings) (floor-short : Short (settings .floor)) (threshold-few : settings .threshold < 2 ^ 16) (cell plant : List ℕ)
+module _ (limits : Limits) (floor-short : Short (limits .floor)) (threshold-few : limits .threshold < 2 ^ 16) (cell plant : List ℕ)
     (cell-bytes : Bytes cell) (plant-bytes : Bytes plant) (cell-few : length cell < 2 ^ 64) (plant-few : length plant < 2 ^ 64) where
   port-few : (l : List ℕ) → Bytes l → (at : ℕ) → portAt l at < 2 ^ 16
   port-few l bytes at = go (ported (protocol l) (later l))
@@ -297,16 +298,16 @@ module _ (settings : Settings) (floor-short : Short (settings .floor)) (threshol
       go false = omega arith
 
   -- by what a packet of ours meets in the tables
-  module _ (l : List ℕ) (bytes : Bytes l) (fromPlant : Bool) (tables : Tables) (all : All Short (tables .counts)) where
+  module _ (placing : Placing) (l : List ℕ) (bytes : Bytes l) (fromPlant : Bool) (tables : Tables) (all : All Short (tables .counts)) where
     abbrev rules : Rules
-    rules = document01 settings
+    rules = rulesOf limits
 
-    met-short : Short (metIn (spotOf rules (settings .keys) (headerOf l) fromPlant (length (tables .records)) (length (tables .tags))) tables .count)
+    met-short : Short (metIn (spotOf slotRule placing (headerOf l) fromPlant (length (tables .records)) (length (tables .tags))) tables .count)
     met-short = count-short _ _ (tables .tags) (tables .counts) all
 
     drop-fits : (verdict : Verdict)
         → DropSized (dropOf rules cell plant (headerOf l) verdict
-        (metIn (spotOf rules (settings .keys) (headerOf l) fromPlant (length (tables .records)) (length (tables .tags))) tables))
+        (metIn (spotOf slotRule placing (headerOf l) fromPlant (length (tables .records)) (length (tables .tags))) tables))
     unfolding headerOf transportOf
     drop-fits verdict =
         record {
@@ -321,41 +322,41 @@ module _ (settings : Settings) (floor-short : Short (settings .floor)) (threshol
           plant-entry = sized cell plant cell-bytes plant-bytes (headerOf l .destination) cell-few plant-few;
         }
 
-    met-fits : ExplanationSized (whyOurs document01 settings cell plant (headerOf l) fromPlant tables)
+    met-fits : ExplanationSized (whyOurs (rulesOf limits) placing cell plant (headerOf l) fromPlant tables)
     unfolding whyOurs
     met-fits = go verdict (isForwarded verdict)
       where
         verdict : Verdict
         verdict =
             verdictBy rules (headerOf l) fromPlant
-            (recordMet (spotOf rules (settings .keys) (headerOf l) fromPlant (length (tables .records)) (length (tables .tags))) tables)
-            (countMet (spotOf rules (settings .keys) (headerOf l) fromPlant (length (tables .records)) (length (tables .tags))) tables)
+            (recordMet (spotOf slotRule placing (headerOf l) fromPlant (length (tables .records)) (length (tables .tags))) tables)
+            (countMet (spotOf slotRule placing (headerOf l) fromPlant (length (tables .records)) (length (tables .tags))) tables)
 
         go : (verdict : Verdict) (forwarded : Bool)
             → ExplanationSized (cond forwarded (why.Forwarded verdict)
             (why.Dropped (dropOf rules cell plant (headerOf l) verdict
-            (metIn (spotOf rules (settings .keys) (headerOf l) fromPlant (length (tables .records)) (length (tables .tags))) tables))))
+            (metIn (spotOf slotRule placing (headerOf l) fromPlant (length (tables .records)) (length (tables .tags))) tables))))
         go verdict true = tt
         go verdict false = drop-fits verdict
 
-  explained-fits : (l : List ℕ) → Bytes l → (direction : Direction) (tables : Tables) → All Short (tables .counts)
-      → ExplanationSized (whyByDirection document01 settings cell plant (headerOf l) direction tables)
+  explained-fits : (placing : Placing) (l : List ℕ) → Bytes l → (direction : Direction) (tables : Tables) → All Short (tables .counts)
+      → ExplanationSized (whyByDirection (rulesOf limits) placing cell plant (headerOf l) direction tables)
   unfolding whyByDirection
-  explained-fits l bytes FromCell tables all = met-fits l bytes false tables all
-  explained-fits l bytes FromPlant tables all = met-fits l bytes true tables all
-  explained-fits l bytes NotOurs tables all = tt
+  explained-fits placing l bytes FromCell tables all = met-fits placing l bytes false tables all
+  explained-fits placing l bytes FromPlant tables all = met-fits placing l bytes true tables all
+  explained-fits placing l bytes NotOurs tables all = tt
 
   pub why-fits : (time : ℕ) (l : List ℕ) → Bytes l → (before : State) → All Short (before .tables .counts)
-      → ExplanationSized (whyOf document01 settings cell plant time l before)
+      → ExplanationSized (whyOf (rulesOf limits) limits cell plant time l before)
   unfolding whyOf
   why-fits time l bytes before all =
-      unless (packetRefusal settings cell plant time l before) (refusal-few settings cell plant time l before)
+      unless (packetRefusal limits cell plant time l before) (refusal-few limits cell plant time l before)
     where
       told : Explanation
       told =
-          whyByDirection document01 settings cell plant (headerOf l) (directionIn cell plant (headerOf l))
-          (onward (document01 settings .point) settings time before .tables)
+          whyByDirection (rulesOf limits) (before .placing) cell plant (headerOf l) (directionIn cell plant (headerOf l))
+          (onward (rulesOf limits .point) limits time before .tables)
 
       unless : (number : ℕ) → number < 10 → ExplanationSized (unlessRefusedBy number told)
-      unless zero few = explained-fits l bytes (directionIn cell plant (headerOf l)) _ (onward-short settings floor-short time before all)
+      unless zero few = explained-fits (before .placing) l bytes (directionIn cell plant (headerOf l)) _ (onward-short limits floor-short time before all)
       unless (suc n) few = omega (arith, few)

@@ -6,13 +6,13 @@ ghost use lib.IntN.{natAbs};
 ghost use Rattle.rulings.specs.Answers.{addressTold};
 ghost use Rattle.lines.specs.Text.{space, dot, decimal, signed, dotted, orDash};
 ghost use Rattle.lines.specs.Lines.{refusalText, answerText, line, lastLine};
-ghost use Rattle.lines.specs.Room.{roomOf, putByte, put};
+ghost use Rattle.lines.specs.Room.{lentRoom, leftRoom, putByte, put};
 use rulings::answers::Answer;
 use rulings::answers::Replacement;
 
 // Puts one byte, and answers the place after it.
 pub fn put_byte(room: &mut [u8], at: usize, byte: u8) -> usize
-    ensures { λ r. ⌜ roomOf r (now (room .exit)) ≡ putByte byte (roomOf at (now (room .entry))) ⌝ }
+    ensures { λ r. ⌜ leftRoom room r ≡ putByte byte (lentRoom room at) ⌝ }
 {
     if at < room.len() {
         room[at] = byte;
@@ -23,7 +23,7 @@ pub fn put_byte(room: &mut [u8], at: usize, byte: u8) -> usize
 
 // Puts a text, byte by byte, and answers the place after it.
 pub fn put_text(room: &mut [u8], at: usize, text: &[u8]) -> usize
-    ensures { λ r. ⌜ roomOf r (now (room .exit)) ≡ put (now (text .entry)) (roomOf at (now (room .entry))) ⌝ }
+    ensures { λ r. ⌜ leftRoom room r ≡ put (now (text .entry)) (lentRoom room at) ⌝ }
 {
     let mut next = at;
     let mut done = 0;
@@ -36,7 +36,7 @@ pub fn put_text(room: &mut [u8], at: usize, text: &[u8]) -> usize
 
 // Puts a number's decimal digits, those of a tenth of it and the last, and answers the place after them.
 pub fn put_decimal(room: &mut [u8], at: usize, number: u64) -> usize
-    ensures { λ r. ⌜ roomOf r (now (room .exit)) ≡ put (decimal number) (roomOf at (now (room .entry))) ⌝ }
+    ensures { λ r. ⌜ leftRoom room r ≡ put (decimal number) (lentRoom room at) ⌝ }
 {
     if number < 10 {
         return put_byte(room, at, 48 + number as u8);
@@ -59,7 +59,7 @@ fn magnitude(count: i16) -> u64
 
 // Puts a count, with its sign where it is below 0, and answers the place after it.
 pub fn put_signed(room: &mut [u8], at: usize, count: i16) -> usize
-    ensures { λ r. ⌜ roomOf r (now (room .exit)) ≡ put (signed count) (roomOf at (now (room .entry))) ⌝ }
+    ensures { λ r. ⌜ leftRoom room r ≡ put (signed count) (lentRoom room at) ⌝ }
 {
     if count < 0 {
         let next = put_byte(room, at, b'-');
@@ -70,7 +70,7 @@ pub fn put_signed(room: &mut [u8], at: usize, count: i16) -> usize
 
 // A further byte of an address, with the dot before it.
 fn put_part(room: &mut [u8], at: usize, part: u64) -> usize
-    ensures { λ r. ⌜ roomOf r (now (room .exit)) ≡ put (dot ∷ decimal part) (roomOf at (now (room .entry))) ⌝ }
+    ensures { λ r. ⌜ leftRoom room r ≡ put (dot ∷ decimal part) (lentRoom room at) ⌝ }
 {
     let next = put_byte(room, at, b'.');
     put_decimal(room, next, part)
@@ -78,7 +78,7 @@ fn put_part(room: &mut [u8], at: usize, part: u64) -> usize
 
 // Puts an address in dotted form, and answers the place after it.
 pub fn put_dotted(room: &mut [u8], at: usize, address: u32) -> usize
-    ensures { λ r. ⌜ roomOf r (now (room .exit)) ≡ put (dotted address) (roomOf at (now (room .entry))) ⌝ }
+    ensures { λ r. ⌜ leftRoom room r ≡ put (dotted address) (lentRoom room at) ⌝ }
 {
     let next = put_decimal(room, at, (address / 16777216) as u64);
     let next = put_part(room, next, (address / 65536 % 256) as u64);
@@ -87,7 +87,7 @@ pub fn put_dotted(room: &mut [u8], at: usize, address: u32) -> usize
 }
 
 fn put_replaced(room: &mut [u8], at: usize, replaced: Replacement) -> usize
-    ensures { λ r. ⌜ roomOf r (now (room .exit)) ≡ put (orDash dotted (addressTold replaced)) (roomOf at (now (room .entry))) ⌝ }
+    ensures { λ r. ⌜ leftRoom room r ≡ put (orDash dotted (addressTold replaced)) (lentRoom room at) ⌝ }
 {
     match replaced {
         Replacement::None => put_byte(room, at, b'-'),
@@ -96,7 +96,7 @@ fn put_replaced(room: &mut [u8], at: usize, replaced: Replacement) -> usize
 }
 
 fn put_refusal(room: &mut [u8], at: usize, number: u8) -> usize
-    ensures { λ r. ⌜ roomOf r (now (room .exit)) ≡ put (refusalText number) (roomOf at (now (room .entry))) ⌝ }
+    ensures { λ r. ⌜ leftRoom room r ≡ put (refusalText number) (lentRoom room at) ⌝ }
 {
     let next = put_text(room, at, b"R ");
     put_decimal(room, next, number as u64)
@@ -104,8 +104,8 @@ fn put_refusal(room: &mut [u8], at: usize, number: u8) -> usize
 
 // A verdict's number, and a count and a replaced address after it.
 fn put_verdict(room: &mut [u8], at: usize, verdict: u8, count: i16, replaced: Replacement) -> usize
-    ensures { λ r. ⌜ roomOf r (now (room .exit))
-        ≡ put (decimal verdict ++ (space ∷ (signed count ++ (space ∷ orDash dotted (addressTold replaced))))) (roomOf at (now (room .entry))) ⌝ }
+    ensures { λ r. ⌜ leftRoom room r
+        ≡ put (decimal verdict ++ (space ∷ (signed count ++ (space ∷ orDash dotted (addressTold replaced))))) (lentRoom room at) ⌝ }
 {
     let next = put_decimal(room, at, verdict as u64);
     let next = put_byte(room, next, b' ');
@@ -115,7 +115,7 @@ fn put_verdict(room: &mut [u8], at: usize, verdict: u8, count: i16, replaced: Re
 }
 
 fn put_answer(room: &mut [u8], at: usize, answer: Answer) -> usize
-    ensures { λ r. ⌜ roomOf r (now (room .exit)) ≡ put (answerText answer) (roomOf at (now (room .entry))) ⌝ }
+    ensures { λ r. ⌜ leftRoom room r ≡ put (answerText answer) (lentRoom room at) ⌝ }
 {
     match answer {
         Answer::Refused(number) => put_refusal(room, at, number),
@@ -130,7 +130,7 @@ fn put_answer(room: &mut [u8], at: usize, answer: Answer) -> usize
 
 // Puts the line of a record, by its number and what was answered. Answers the place after it in the room.
 pub fn put_line(room: &mut [u8], at: usize, number: u64, answer: Answer) -> usize
-    ensures { λ r. ⌜ roomOf r (now (room .exit)) ≡ put (line number answer) (roomOf at (now (room .entry))) ⌝ }
+    ensures { λ r. ⌜ leftRoom room r ≡ put (line number answer) (lentRoom room at) ⌝ }
 {
     let next = put_decimal(room, at, number);
     let next = put_byte(room, next, b' ');
@@ -140,7 +140,7 @@ pub fn put_line(room: &mut [u8], at: usize, number: u64, answer: Answer) -> usiz
 
 // Puts the last line: how many records were read whole, and how many refusals there were. Answers the place after it in the room.
 pub fn put_last_line(room: &mut [u8], at: usize, records: u64, refusals: u64) -> usize
-    ensures { λ r. ⌜ roomOf r (now (room .exit)) ≡ put (lastLine records refusals) (roomOf at (now (room .entry))) ⌝ }
+    ensures { λ r. ⌜ leftRoom room r ≡ put (lastLine records refusals) (lentRoom room at) ⌝ }
 {
     let next = put_text(room, at, b"end ");
     let next = put_decimal(room, next, records);

@@ -19,6 +19,7 @@ use Rattle.embed.proofs.plain.of_answer.Reads as embed-plain-of-answer
 use Rattle.embed.proofs.plain.of_opened.Reads as embed-plain-of-opened
 use Rattle.embed.proofs.plain.of_reading.Reads as embed-plain-of-reading
 use Rattle.embed.proofs.plain.of_reply.Reads as embed-plain-of-reply
+use Rattle.embed.proofs.plain.of_started.Reads as embed-plain-of-started
 use Rattle.embed.proofs.plain.of_winning.Reads as embed-plain-of-winning
 use Rattle.embed.proofs.plain.of_written.Reads as embed-plain-of-written
 use Rattle.embed.proofs.plain.tally_with.Reads as embed-plain-tally-with
@@ -54,8 +55,8 @@ use Rattle.gateway.proofs.cold_start.Reads as gateway-cold-start
 use Rattle.gateway.proofs.judge.Reads as gateway-judge
 use Rattle.gateway.proofs.pass.Reads as gateway-pass
 use Rattle.gateway.proofs.why.Reads as gateway-why
-use Rattle.gateway.specs.Calls.{afterOf}
-use Rattle.gateway.specs.Calls.{stateOf}
+use Rattle.gateway.specs.Calls.{leftState}
+use Rattle.gateway.specs.Calls.{left}
 use Rattle.lines.proofs.put_byte.Reads as lines-put-byte
 use Rattle.lines.proofs.put_decimal.Reads as lines-put-decimal
 use Rattle.lines.proofs.put_dotted.Reads as lines-put-dotted
@@ -63,7 +64,7 @@ use Rattle.lines.proofs.put_last_line.Reads as lines-put-last-line
 use Rattle.lines.proofs.put_line.Reads as lines-put-line
 use Rattle.lines.proofs.put_signed.Reads as lines-put-signed
 use Rattle.lines.proofs.put_text.Reads as lines-put-text
-use Rattle.lines.specs.Room.{roomOf}
+use Rattle.lines.specs.Room.{leftRoom}
 use Rattle.outputs.proofs.asks_why.Reads as outputs-asks-why
 use Rattle.outputs.proofs.put_opening.Reads as outputs-put-opening
 use Rattle.outputs.proofs.put_told.Reads as outputs-put-told
@@ -84,9 +85,11 @@ use Rattle.refusals.proofs.of_packet.Reads as refusals-of-packet
 use Rattle.refusals.proofs.of_start.Reads as refusals-of-start
 use Rattle.refusals.proofs.of_time.Reads as refusals-of-time
 use Rattle.replay.proofs.next.Reads as replay-next
+use Rattle.replay.specs.Replay.{programPlacing}
 use Rattle.rulings.proofs.ruling_of.Reads as rulings-ruling-of
+use Rattle.settings.proofs.Limits.is_bad.Reads as settings-limits-is-bad
 use Rattle.settings.proofs.Settings.factory.Reads as settings-settings-factory
-use Rattle.settings.proofs.Settings.is_bad.Reads as settings-settings-is-bad
+use Rattle.settings.proofs.Settings.with_threshold.Reads as settings-settings-with-threshold
 use Rattle.sides.proofs.bad_list.Reads as sides-bad-list
 use Rattle.sides.proofs.direction_between.Reads as sides-direction-between
 use Rattle.sides.proofs.entry_in.Reads as sides-entry-in
@@ -99,7 +102,7 @@ use Rattle.tables.proofs.clock.multiples_passed.Reads as tables-clock-multiples
 use Rattle.tables.proofs.clock.pass.Reads as tables-clock-pass
 use Rattle.tables.proofs.sizes.bad_sizes.Reads as tables-sizes-bad-sizes
 use Rattle.tables.specs.Clock.{timedOf}
-use Rattle.tables.specs.Tables.{tablesOf}
+use Rattle.tables.specs.Tables.{leftTables}
 use Rattle.tally.proofs.Tally.empty.Reads as tally-tally-empty
 use Rattle.tally.proofs.Tally.with.Reads as tally-tally-with
 use Rattle.tally.proofs.Tally.with_verdict.Reads as tally-tally-with-verdict
@@ -134,11 +137,16 @@ use Rattle.words.proofs.store_two.Reads as words-store-two
 use Rattle.words.proofs.two_at.Reads as words-two-at
 use Rattle.words.proofs.two_in.Reads as words-two-in
 use denote.Ref.{now}
+use denote.Triple.Both.{Both}
 use mathlib.Core.Path.{_≡_, sym, _∙_}
 
 -- what is allowed determines the outcome
 abbrev One {ℓ m} : {X : Type ℓ} {S : Type m} {O : Type 0} → (X → S → Type 0) → (X → S → O) → Type (ℓ ⊔ m)
 One {X = X} {S = S} allowed outcome = (x y : X) (s t : S) → allowed x s → allowed y t → outcome x s ≡ outcome y t
+
+-- what is lent, where only its exit is looked at
+abbrev both : {A : Type 1} → A → Both A A
+both x = record { entry = x; exit = x }
 
 -- the one lemma: a contract is an equation of its outcome with a definition's value at the entry
 same : {O : Type 0} {x y d : O} → x ≡ d → y ≡ d → x ≡ y
@@ -174,8 +182,11 @@ words-store-four-one κs a x y s t p q = same p q
 pub settings-settings-factory-one : (κs : _) (a : _) → One (settings-settings-factory.Learnt κs a) (λ x s. x)
 settings-settings-factory-one κs a x y s t p q = same (p .0) (q .0)
 
-pub settings-settings-is-bad-one : (κs : _) (a : _) → One (settings-settings-is-bad.Learnt κs a) (λ x s. x)
-settings-settings-is-bad-one κs a x y s t p q = same p q
+pub settings-settings-with-threshold-one : (κs : _) (a : _) → One (settings-settings-with-threshold.Learnt κs a) (λ x s. x)
+settings-settings-with-threshold-one κs a x y s t p q = same p q
+
+pub settings-limits-is-bad-one : (κs : _) (a : _) → One (settings-limits-is-bad.Learnt κs a) (λ x s. x)
+settings-limits-is-bad-one κs a x y s t p q = same p q
 
 pub permute-encrypt-one : (κs : _) (a : _) → One (permute-encrypt.Learnt κs a) (λ x s. x)
 permute-encrypt-one κs a x y s t p q = same p q
@@ -294,34 +305,34 @@ reasons-report-one κs a x y s t p q = same p q
 pub rulings-ruling-of-one : (κs : _) (a : _) → One (rulings-ruling-of.Learnt κs a) (λ x s. x)
 rulings-ruling-of-one κs a x y s t p q = same p q
 
-pub lines-put-byte-one : (κs : _) (a : _) → One (lines-put-byte.Learnt κs a) (λ x s. roomOf x (now (s .0)))
+pub lines-put-byte-one : (κs : _) (a : _) → One (lines-put-byte.Learnt κs a) (λ x s. leftRoom (both (s .0)) x)
 lines-put-byte-one κs a x y s t p q = same p q
 
-pub lines-put-text-one : (κs : _) (a : _) → One (lines-put-text.Learnt κs a) (λ x s. roomOf x (now (s .0)))
+pub lines-put-text-one : (κs : _) (a : _) → One (lines-put-text.Learnt κs a) (λ x s. leftRoom (both (s .0)) x)
 lines-put-text-one κs a x y s t p q = same p q
 
-pub lines-put-decimal-one : (κs : _) (a : _) → One (lines-put-decimal.Learnt κs a) (λ x s. roomOf x (now (s .0)))
+pub lines-put-decimal-one : (κs : _) (a : _) → One (lines-put-decimal.Learnt κs a) (λ x s. leftRoom (both (s .0)) x)
 lines-put-decimal-one κs a x y s t p q = same p q
 
-pub lines-put-signed-one : (κs : _) (a : _) → One (lines-put-signed.Learnt κs a) (λ x s. roomOf x (now (s .0)))
+pub lines-put-signed-one : (κs : _) (a : _) → One (lines-put-signed.Learnt κs a) (λ x s. leftRoom (both (s .0)) x)
 lines-put-signed-one κs a x y s t p q = same p q
 
-pub lines-put-dotted-one : (κs : _) (a : _) → One (lines-put-dotted.Learnt κs a) (λ x s. roomOf x (now (s .0)))
+pub lines-put-dotted-one : (κs : _) (a : _) → One (lines-put-dotted.Learnt κs a) (λ x s. leftRoom (both (s .0)) x)
 lines-put-dotted-one κs a x y s t p q = same p q
 
-pub lines-put-line-one : (κs : _) (a : _) → One (lines-put-line.Learnt κs a) (λ x s. roomOf x (now (s .0)))
+pub lines-put-line-one : (κs : _) (a : _) → One (lines-put-line.Learnt κs a) (λ x s. leftRoom (both (s .0)) x)
 lines-put-line-one κs a x y s t p q = same p q
 
-pub lines-put-last-line-one : (κs : _) (a : _) → One (lines-put-last-line.Learnt κs a) (λ x s. roomOf x (now (s .0)))
+pub lines-put-last-line-one : (κs : _) (a : _) → One (lines-put-last-line.Learnt κs a) (λ x s. leftRoom (both (s .0)) x)
 lines-put-last-line-one κs a x y s t p q = same p q
 
 pub arguments-record-number-one : (κs : _) (a : _) → One (arguments-record-number.Learnt κs a) (λ x s. x)
 arguments-record-number-one κs a x y s t p q = same p q
 
-pub explanations-put-asked-one : (κs : _) (a : _) → One (explanations-put-asked.Learnt κs a) (λ x s. roomOf x (now (s .0)))
+pub explanations-put-asked-one : (κs : _) (a : _) → One (explanations-put-asked.Learnt κs a) (λ x s. leftRoom (both (s .0)) x)
 explanations-put-asked-one κs a x y s t p q = same p q
 
-pub cold-fill-one : (κs : _) (a : _) → One (cold-fill.Learnt κs a) (λ x s. tablesOf (now (s .0)) (now (s .1 .0)) (now (s .1 .1 .0)))
+pub cold-fill-one : (κs : _) (a : _) → One (cold-fill.Learnt κs a) (λ x s. leftTables (both (s .0)) (both (s .1 .0)) (both (s .1 .1 .0)))
 cold-fill-one κs a x y s t p q = same p q
 
 pub refusals-of-start-one : (κs : _) (a : _) → One (refusals-of-start.Learnt κs a) (λ x s. x)
@@ -333,13 +344,13 @@ refusals-of-time-one κs a x y s t p q = same p q
 pub refusals-of-packet-one : (κs : _) (a : _) → One (refusals-of-packet.Learnt κs a) (λ x s. x)
 refusals-of-packet-one κs a x y s t p q = same p q
 
-pub gateway-cold-start-one : (κs : _) (a : _) → One (gateway-cold-start.Learnt κs a) (λ x s. afterOf x (now (s .1 .0)) (now (s .1 .1 .0)) (now (s .1 .1 .1 .0)) (now (s .1 .1 .1 .1 .0)))
+pub gateway-cold-start-one : (κs : _) (a : _) → One (gateway-cold-start.Learnt κs a) (λ x s. left (x .placing) (both (s .1 .0)) (both (s .1 .1 .0)) (both (s .1 .1 .1 .0)) (both (s .1 .1 .1 .1 .0)) (x .reply))
 gateway-cold-start-one κs a x y s t p q = same p q
 
-pub gateway-pass-one : (κs : _) (a : _) → One (gateway-pass.Learnt κs a) (λ x s. afterOf x (now (s .1 .0)) (now (s .1 .1 .0)) (now (s .1 .1 .1 .0)) (now (s .1 .1 .1 .1 .0)))
+pub gateway-pass-one : (κs : _) (a : _) → One (gateway-pass.Learnt κs a) (λ x s. left (a .1 .0) (both (s .1 .1 .0)) (both (s .1 .1 .1 .0)) (both (s .1 .1 .1 .1 .0)) (both (s .1 .1 .1 .1 .1 .0)) x)
 gateway-pass-one κs a x y s t p q = same p q
 
-pub gateway-judge-one : (κs : _) (a : _) → One (gateway-judge.Learnt κs a) (λ x s. afterOf x (now (s .1 .1 .1 .0)) (now (s .1 .1 .1 .1 .0)) (now (s .1 .1 .1 .1 .1 .0)) (now (s .1 .1 .1 .1 .1 .1 .0)))
+pub gateway-judge-one : (κs : _) (a : _) → One (gateway-judge.Learnt κs a) (λ x s. left (a .1 .0) (both (s .1 .1 .1 .1 .0)) (both (s .1 .1 .1 .1 .1 .0)) (both (s .1 .1 .1 .1 .1 .1 .0)) (both (s .1 .1 .1 .1 .1 .1 .1 .0)) x)
 gateway-judge-one κs a x y s t p q = same p q
 
 pub gateway-why-one : (κs : _) (a : _) → One (gateway-why.Learnt κs a) (λ x s. x)
@@ -357,34 +368,34 @@ tally-tally-with-one κs a x y s t p q = same p q
 pub frames-what-is-in-one : (κs : _) (a : _) → One (frames-what-is-in.Learnt κs a) (λ x s. x)
 frames-what-is-in-one κs a x y s t p q = same p q
 
-pub frames-judge-one : (κs : _) (a : _) → One (frames-judge.Learnt κs a) (λ x s. afterOf x (now (s .1 .1 .1 .0)) (now (s .1 .1 .1 .1 .0)) (now (s .1 .1 .1 .1 .1 .0)) (now (s .1 .1 .1 .1 .1 .1 .0)))
+pub frames-judge-one : (κs : _) (a : _) → One (frames-judge.Learnt κs a) (λ x s. left (a .1 .0) (both (s .1 .1 .1 .1 .0)) (both (s .1 .1 .1 .1 .1 .0)) (both (s .1 .1 .1 .1 .1 .1 .0)) (both (s .1 .1 .1 .1 .1 .1 .1 .0)) x)
 frames-judge-one κs a x y s t p q = same p q
 
 pub frames-why-one : (κs : _) (a : _) → One (frames-why.Learnt κs a) (λ x s. x)
 frames-why-one κs a x y s t p q = same p q
 
-pub replay-next-one : (κs : _) (a : _) → One (replay-next.Learnt κs a) (λ x s. afterOf x (now (s .1 .1 .1 .1 .0)) (now (s .1 .1 .1 .1 .1 .0)) (now (s .1 .1 .1 .1 .1 .1 .0)) (now (s .1 .1 .1 .1 .1 .1 .1 .0)))
+pub replay-next-one : (κs : _) (a : _) → One (replay-next.Learnt κs a) (λ x s. left programPlacing (both (s .1 .1 .1 .1 .0)) (both (s .1 .1 .1 .1 .1 .0)) (both (s .1 .1 .1 .1 .1 .1 .0)) (both (s .1 .1 .1 .1 .1 .1 .1 .0)) x)
 replay-next-one κs a x y s t p q = same p q
 
 pub outputs-asks-why-one : (κs : _) (a : _) → One (outputs-asks-why.Learnt κs a) (λ x s. x)
 outputs-asks-why-one κs a x y s t p q = same p q
 
-pub outputs-put-told-one : (κs : _) (a : _) → One (outputs-put-told.Learnt κs a) (λ x s. roomOf x (now (s .1 .0)))
+pub outputs-put-told-one : (κs : _) (a : _) → One (outputs-put-told.Learnt κs a) (λ x s. leftRoom (both (s .1 .0)) x)
 outputs-put-told-one κs a x y s t p q = same p q
 
-pub outputs-put-opening-one : (κs : _) (a : _) → One (outputs-put-opening.Learnt κs a) (λ x s. roomOf x (now (s .1 .0)))
+pub outputs-put-opening-one : (κs : _) (a : _) → One (outputs-put-opening.Learnt κs a) (λ x s. leftRoom (both (s .1 .0)) x)
 outputs-put-opening-one κs a x y s t p q = same p q
 
 pub endings-one-more-one : (κs : _) (a : _) → One (endings-one-more.Learnt κs a) (λ x s. x)
 endings-one-more-one κs a x y s t p q = same p q
 
-pub endings-put-ending-one : (κs : _) (a : _) → One (endings-put-ending.Learnt κs a) (λ x s. roomOf x (now (s .0)))
+pub endings-put-ending-one : (κs : _) (a : _) → One (endings-put-ending.Learnt κs a) (λ x s. leftRoom (both (s .0)) x)
 endings-put-ending-one κs a x y s t p q = same p q
 
-pub endings-put-refused-header-one : (κs : _) (a : _) → One (endings-put-refused-header.Learnt κs a) (λ x s. roomOf x (now (s .0)))
+pub endings-put-refused-header-one : (κs : _) (a : _) → One (endings-put-refused-header.Learnt κs a) (λ x s. leftRoom (both (s .0)) x)
 endings-put-refused-header-one κs a x y s t p q = same p q
 
-pub feeding-feed-one : (κs : _) (a : _) → One (feeding-feed.Learnt κs a) (λ x s. replayedOf x (now (s .1 .1 .1 .0)) (stateOf (now (s .1 .1 .1 .1 .0)) (now (s .1 .1 .1 .1 .1 .0)) (now (s .1 .1 .1 .1 .1 .1 .0)) (now (s .1 .1 .1 .1 .1 .1 .1 .0))))
+pub feeding-feed-one : (κs : _) (a : _) → One (feeding-feed.Learnt κs a) (λ x s. replayedOf x (now (s .1 .1 .1 .0)) (leftState programPlacing (both (s .1 .1 .1 .1 .0)) (both (s .1 .1 .1 .1 .1 .0)) (both (s .1 .1 .1 .1 .1 .1 .0)) (both (s .1 .1 .1 .1 .1 .1 .1 .0))))
 feeding-feed-one κs a x y s t p q = same p q
 
 pub streams-shift-one : (κs : _) (a : _) → One (streams-shift.Learnt κs a) (λ x s. heldOf x (now (s .0)))
@@ -417,7 +428,7 @@ turns-goes-on-one κs a x y s t p q = same p q
 pub turns-lacks-header-one : (κs : _) (a : _) → One (turns-lacks-header.Learnt κs a) (λ x s. x)
 turns-lacks-header-one κs a x y s t p q = same p q
 
-pub turns-put-end-one : (κs : _) (a : _) → One (turns-put-end.Learnt κs a) (λ x s. roomOf x (now (s .0)))
+pub turns-put-end-one : (κs : _) (a : _) → One (turns-put-end.Learnt κs a) (λ x s. leftRoom (both (s .0)) x)
 turns-put-end-one κs a x y s t p q = same p q
 
 pub turns-ending-goes-to-one : (κs : _) (a : _) → One (turns-ending-goes-to.Learnt κs a) (λ x s. x)
@@ -426,31 +437,31 @@ turns-ending-goes-to-one κs a x y s t p q = same p q
 pub turns-beginning-goes-to-one : (κs : _) (a : _) → One (turns-beginning-goes-to.Learnt κs a) (λ x s. x)
 turns-beginning-goes-to-one κs a x y s t p q = same p q
 
-pub turns-put-missing-one : (κs : _) (a : _) → One (turns-put-missing.Learnt κs a) (λ x s. roomOf x (now (s .1 .0)))
+pub turns-put-missing-one : (κs : _) (a : _) → One (turns-put-missing.Learnt κs a) (λ x s. leftRoom (both (s .1 .0)) x)
 turns-put-missing-one κs a x y s t p q = same p q
 
-pub turns-put-lost-one : (κs : _) (a : _) → One (turns-put-lost.Learnt κs a) (λ x s. roomOf x (now (s .1 .0)))
+pub turns-put-lost-one : (κs : _) (a : _) → One (turns-put-lost.Learnt κs a) (λ x s. leftRoom (both (s .1 .0)) x)
 turns-put-lost-one κs a x y s t p q = same p q
 
 pub turns-begin-one : (κs : _) (a : _) → One (turns-begin.Learnt κs a) (λ x s. beginningOf x (now (s .1 .1 .0)))
 turns-begin-one κs a x y s t p q = same p q
 
-pub turns-take-one : (κs : _) (a : _) → One (turns-take.Learnt κs a) (λ x s. turnOf x (now (s .1 .0)) (now (s .1 .1 .1 .0)) (stateOf (now (s .1 .1 .1 .1 .0)) (now (s .1 .1 .1 .1 .1 .0)) (now (s .1 .1 .1 .1 .1 .1 .0)) (now (s .1 .1 .1 .1 .1 .1 .1 .0))))
+pub turns-take-one : (κs : _) (a : _) → One (turns-take.Learnt κs a) (λ x s. turnOf x (now (s .1 .0)) (now (s .1 .1 .1 .0)) (leftState programPlacing (both (s .1 .1 .1 .1 .0)) (both (s .1 .1 .1 .1 .1 .0)) (both (s .1 .1 .1 .1 .1 .1 .0)) (both (s .1 .1 .1 .1 .1 .1 .1 .0))))
 turns-take-one κs a x y s t p q = same p q
 
 pub embed-spritgrommet-factory-one : (κs : _) (a : _) → One (embed-spritgrommet-factory.Learnt κs a) (λ x s. x)
 embed-spritgrommet-factory-one κs a x y s t p q = same p q
 
-pub embed-spritgrommet-cold-start-one : (κs : _) (a : _) → One (embed-spritgrommet-cold-start.Learnt κs a) (λ x s. afterOf x (now (s .1 .0)) (now (s .1 .1 .0)) (now (s .1 .1 .1 .0)) (now (s .1 .1 .1 .1 .0)))
+pub embed-spritgrommet-cold-start-one : (κs : _) (a : _) → One (embed-spritgrommet-cold-start.Learnt κs a) (λ x s. left (x .placing) (both (s .1 .0)) (both (s .1 .1 .0)) (both (s .1 .1 .1 .0)) (both (s .1 .1 .1 .1 .0)) (x .refusal))
 embed-spritgrommet-cold-start-one κs a x y s t p q = same p q
 
-pub embed-spritgrommet-pass-one : (κs : _) (a : _) → One (embed-spritgrommet-pass.Learnt κs a) (λ x s. afterOf x (now (s .1 .0)) (now (s .1 .1 .0)) (now (s .1 .1 .1 .0)) (now (s .1 .1 .1 .1 .0)))
+pub embed-spritgrommet-pass-one : (κs : _) (a : _) → One (embed-spritgrommet-pass.Learnt κs a) (λ x s. left (a .1 .0) (both (s .1 .1 .0)) (both (s .1 .1 .1 .0)) (both (s .1 .1 .1 .1 .0)) (both (s .1 .1 .1 .1 .1 .0)) x)
 embed-spritgrommet-pass-one κs a x y s t p q = same p q
 
-pub embed-spritgrommet-judge-one : (κs : _) (a : _) → One (embed-spritgrommet-judge.Learnt κs a) (λ x s. afterOf x (now (s .1 .1 .1 .0)) (now (s .1 .1 .1 .1 .0)) (now (s .1 .1 .1 .1 .1 .0)) (now (s .1 .1 .1 .1 .1 .1 .0)))
+pub embed-spritgrommet-judge-one : (κs : _) (a : _) → One (embed-spritgrommet-judge.Learnt κs a) (λ x s. left (a .1 .0) (both (s .1 .1 .1 .1 .0)) (both (s .1 .1 .1 .1 .1 .0)) (both (s .1 .1 .1 .1 .1 .1 .0)) (both (s .1 .1 .1 .1 .1 .1 .1 .0)) x)
 embed-spritgrommet-judge-one κs a x y s t p q = same p q
 
-pub embed-spritgrommet-judge-frame-one : (κs : _) (a : _) → One (embed-spritgrommet-judge-frame.Learnt κs a) (λ x s. afterOf x (now (s .1 .1 .1 .0)) (now (s .1 .1 .1 .1 .0)) (now (s .1 .1 .1 .1 .1 .0)) (now (s .1 .1 .1 .1 .1 .1 .0)))
+pub embed-spritgrommet-judge-frame-one : (κs : _) (a : _) → One (embed-spritgrommet-judge-frame.Learnt κs a) (λ x s. left (a .1 .0) (both (s .1 .1 .1 .1 .0)) (both (s .1 .1 .1 .1 .1 .0)) (both (s .1 .1 .1 .1 .1 .1 .0)) (both (s .1 .1 .1 .1 .1 .1 .1 .0)) x)
 embed-spritgrommet-judge-frame-one κs a x y s t p q = same p q
 
 pub embed-spritgrommet-winner-one : (κs : _) (a : _) → One (embed-spritgrommet-winner.Learnt κs a) (λ x s. x)
@@ -476,6 +487,9 @@ embed-spritgrommet-put-record-one κs a x y s t p q = same p q
 
 pub embed-plain-of-reply-one : (κs : _) (a : _) → One (embed-plain-of-reply.Learnt κs a) (λ x s. x)
 embed-plain-of-reply-one κs a x y s t p q = same p q
+
+pub embed-plain-of-started-one : (κs : _) (a : _) → One (embed-plain-of-started.Learnt κs a) (λ x s. x)
+embed-plain-of-started-one κs a x y s t p q = same p q
 
 pub embed-plain-of-answer-one : (κs : _) (a : _) → One (embed-plain-of-answer.Learnt κs a) (λ x s. x)
 embed-plain-of-answer-one κs a x y s t p q = same p q

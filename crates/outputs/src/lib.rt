@@ -2,7 +2,7 @@
 // why it was dropped.
 ghost use mathlib.Core.Path.{_≡_};
 ghost use Rattle.rulings.specs.Answers.{forwardedTold};
-ghost use Rattle.lines.specs.Room.{roomOf};
+ghost use Rattle.lines.specs.Room.{lentRoom, leftRoom};
 ghost use Rattle.capture.specs.Format.{contentOf};
 ghost use Rattle.outputs.specs.Outputs.{placeAfter, forwardedPut, asksWhy, toldPut, openingPut};
 use capture::Record;
@@ -56,8 +56,8 @@ fn place_after(written: Written, at: usize) -> usize
 
 // Puts a record that went through.
 fn put_forwarded(room: &mut [u8], at: usize, read: Record, frame: &[u8], answer: Answer) -> usize
-    ensures { λ r. ⌜ roomOf r (now (room .exit))
-        ≡ forwardedPut (contentOf (read .seconds) (read .microseconds) (read .original) (now (frame .entry))) answer (roomOf at (now (room .entry))) ⌝ }
+    ensures { λ r. ⌜ leftRoom room r
+        ≡ forwardedPut (contentOf (read .seconds) (read .microseconds) (read .original) (now (frame .entry))) answer (lentRoom room at) ⌝ }
 {
     if is_forwarded(answer) {
         let written = capture::put_record(
@@ -85,9 +85,9 @@ pub fn put_told(
     answer: Answer,
     asked: Asked,
 ) -> usize
-    ensures { λ r. ⌜ roomOf r (now (room .exit))
+    ensures { λ r. ⌜ leftRoom room r
         ≡ toldPut output number (contentOf (read .seconds) (read .microseconds) (read .original) (now (frame .entry))) answer asked
-        (roomOf at (now (room .entry))) ⌝ }
+        (lentRoom room at) ⌝ }
 {
     match output {
         Output::Lines => lines::put_line(room, at, number, answer),
@@ -101,7 +101,7 @@ pub fn put_told(
 // Puts what a program puts out before the first record, once the capture's header is read: a header of its own, or nothing. Answers the
 // place after it in the room.
 pub fn put_opening(output: Output, room: &mut [u8], at: usize) -> usize
-    ensures { λ r. ⌜ roomOf r (now (room .exit)) ≡ openingPut output (roomOf at (now (room .entry))) ⌝ }
+    ensures { λ r. ⌜ leftRoom room r ≡ openingPut output (lentRoom room at) ⌝ }
 {
     match output {
         Output::Lines => at,

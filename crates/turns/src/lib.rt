@@ -2,8 +2,9 @@
 // writes asks here, and does as it is told.
 ghost use mathlib.Core.Path.{_≡_};
 ghost use Rattle.capture.specs.Capture.{openedOf};
-ghost use Rattle.gateway.specs.Calls.{stateOf};
-ghost use Rattle.lines.specs.Room.{roomOf, put};
+ghost use Rattle.gateway.specs.Calls.{lent, leftState};
+ghost use Rattle.replay.specs.Replay.{programPlacing};
+ghost use Rattle.lines.specs.Room.{lentRoom, leftRoom, put};
 ghost use Rattle.turns.specs.Turns.{firstStage, begunAnew, isEarly, hasFailed, refilledStage, takenStage, writtenStage, isSound, goesOn, lacksHeader};
 ghost use Rattle.turns.specs.Turns.{endsRefused, endingDue, endingStream, beginningStream, wantedOf, isMissing, missingDue, lostWords};
 ghost use Rattle.turns.specs.Turns.{beginningOf, begunBy, turnOf, turnTaken};
@@ -147,7 +148,7 @@ fn ends_refused(stage: Stage) -> bool
 // Puts how the capture ended: the record that was refused by 8, if one was, how many were read whole and how many refusals there were.
 // Nothing is said where anything was lost.
 pub fn put_end(room: &mut [u8], stage: Stage) -> usize
-    ensures { λ r. ⌜ roomOf r (now (room .exit)) ≡ put (endingDue stage) (roomOf 0 (now (room .entry))) ⌝ }
+    ensures { λ r. ⌜ leftRoom room r ≡ put (endingDue stage) (lentRoom room 0) ⌝ }
 {
     let progress = stage.progress;
     if is_sound(stage) {
@@ -204,7 +205,7 @@ fn is_missing(output: Output, records: u64) -> bool
 
 // Puts that the record which alone is wanted is not there, where it is not. Nothing is said where anything was lost.
 pub fn put_missing(output: Output, room: &mut [u8], stage: Stage) -> usize
-    ensures { λ r. ⌜ roomOf r (now (room .exit)) ≡ put (missingDue output stage) (roomOf 0 (now (room .entry))) ⌝ }
+    ensures { λ r. ⌜ leftRoom room r ≡ put (missingDue output stage) (lentRoom room 0) ⌝ }
 {
     let progress = stage.progress;
     if is_sound(stage) & is_missing(output, progress.records) {
@@ -219,7 +220,7 @@ pub fn put_missing(output: Output, room: &mut [u8], stage: Stage) -> usize
 
 // Puts that standard input cannot be read, and by which program. Why is for the system to say.
 pub fn put_lost(output: Output, room: &mut [u8]) -> usize
-    ensures { λ r. ⌜ roomOf r (now (room .exit)) ≡ put (lostWords output) (roomOf 0 (now (room .entry))) ⌝ }
+    ensures { λ r. ⌜ leftRoom room r ≡ put (lostWords output) (lentRoom room 0) ⌝ }
 {
     match output {
         Output::Lines => lines::put_text(room, 0, b"verdicts: standard input cannot be read"),
@@ -258,10 +259,8 @@ pub fn take(
     clock: &mut u32,
     stage: Stage,
 ) -> Stage
-    ensures { λ r. ⌜ turnOf r (now (input .exit)) (now (room .exit))
-        (stateOf (now (records .exit)) (now (tags .exit)) (now (counts .exit)) (now (clock .exit)))
-        ≡ turnTaken output «big_endian» (turnOf stage (now (input .entry)) (now (room .entry))
-        (stateOf (now (records .entry)) (now (tags .entry)) (now (counts .entry)) (now (clock .entry)))) ⌝ }
+    ensures { λ r. ⌜ turnOf r (now (input .exit)) (now (room .exit)) (leftState programPlacing records tags counts clock)
+        ≡ turnTaken output «big_endian» (turnOf stage (now (input .entry)) (now (room .entry)) (lent programPlacing records tags counts clock)) ⌝ }
 {
     let before = stage.progress;
     let end = streams::within(input, stage.held);
