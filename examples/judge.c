@@ -40,7 +40,7 @@ int main(void)
 {
     struct spritgrommet gateway = {.settings = spritgrommet_factory(), .cell = {cell, sizeof cell}, .plant = {plant, sizeof plant},
                                    .records = records, .record_count = 4096, .tags = tags, .counts = counts, .entry_count = 1024};
-    gateway.settings.threshold = 10; /* bin/verdicts' own T, and not the factory's */
+    gateway.settings.limits.threshold = 10; /* bin/verdicts' own T, and not the factory's */
     size_t length;
     uint8_t *bytes = read_all(stdin, &length);
     struct spritgrommet_opening opening = spritgrommet_open(bytes, length);

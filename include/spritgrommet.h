@@ -49,13 +49,30 @@ extern "C" {
 
 /* ---- the structs that cross. What stands here and in the next part tools/boundary declares; only the comments are written by hand ---- */
 
-/* The settings. `spritgrommet_factory` has the factory's. */
-struct spritgrommet_settings {
-    uint32_t keys[8];   /* the round keys of the address permutation; with the factory's zeros anyone can aim at a slot */
+/* The settings that have a range, which every call of a gateway takes. */
+struct spritgrommet_limits {
     uint16_t threshold; /* T, 1 to 255: an address is blocked when its count is at least this */
     int16_t floor;      /* Cmin, -1,000 to 0: no credit lowers a count below this */
     uint16_t dmiss;     /* Dmiss, 1 to 3,600 seconds: at each multiple every positive count falls by one */
     uint8_t dconn;      /* Dconn, 1 to 62 minutes: a connection record lives over so many minute boundaries */
+};
+
+/* All settings. `spritgrommet_factory` has the factory's. A cold start alone takes the keys: afterwards a gateway runs on those that it
+ * started with, `struct spritgrommet_placing`. */
+struct spritgrommet_settings {
+    uint32_t keys[8]; /* the round keys of the address permutation; with the factory's zeros anyone can aim at a slot */
+    struct spritgrommet_limits limits;
+};
+
+/* What places packets in a gateway's tables. It belongs to them as the clock does: a start answers it, and every later call takes it. */
+struct spritgrommet_placing {
+    uint32_t keys[8]; /* the round keys of the address permutation */
+};
+
+/* What a start answers. */
+struct spritgrommet_started {
+    uint8_t refusal;                     /* 0, or the number of the refusal */
+    struct spritgrommet_placing placing; /* on which the gateway runs, where it is not refused: of no use where it is */
 };
 
 /* The answer to a packet. A number that it does not have is 0. */
@@ -148,25 +165,28 @@ struct spritgrommet_reason {
  * sets it; bin/verdicts, bin/forwarded and bin/why have 10. */
 struct spritgrommet_settings spritgrommet_factory(void);
 
-/* `spritgrommet_gateway_cold_start` below, over its parts. */
-uint8_t spritgrommet_cold_start(struct spritgrommet_settings settings, uint8_t *records, size_t records_length, uint32_t *tags,
-                                size_t tags_length, int16_t *counts, size_t counts_length, uint32_t *clock, uint32_t time);
+/* `spritgrommet_gateway_cold_start` below, over its parts. Later calls take the placing that it answers. */
+struct spritgrommet_started spritgrommet_cold_start(struct spritgrommet_settings settings, uint8_t *records, size_t records_length,
+                                                    uint32_t *tags, size_t tags_length, int16_t *counts, size_t counts_length,
+                                                    uint32_t *clock, uint32_t time);
 
 /* `spritgrommet_gateway_pass` below, over its parts. */
-uint8_t spritgrommet_pass(struct spritgrommet_settings settings, uint8_t *records, size_t records_length, uint32_t *tags,
-                          size_t tags_length, int16_t *counts, size_t counts_length, uint32_t *clock, uint32_t time);
+uint8_t spritgrommet_pass(struct spritgrommet_limits limits, struct spritgrommet_placing placing, uint8_t *records, size_t records_length,
+                          uint32_t *tags, size_t tags_length, int16_t *counts, size_t counts_length, uint32_t *clock, uint32_t time);
 
 /* `spritgrommet_gateway_judge` below, over its parts. */
-struct spritgrommet_answer spritgrommet_judge(struct spritgrommet_settings settings, const uint8_t *cell, size_t cell_length,
-                                              const uint8_t *plant, size_t plant_length, uint8_t *records, size_t records_length,
-                                              uint32_t *tags, size_t tags_length, int16_t *counts, size_t counts_length, uint32_t *clock,
-                                              uint32_t time, const uint8_t *packet, size_t packet_length);
+struct spritgrommet_answer spritgrommet_judge(struct spritgrommet_limits limits, struct spritgrommet_placing placing, const uint8_t *cell,
+                                              size_t cell_length, const uint8_t *plant, size_t plant_length, uint8_t *records,
+                                              size_t records_length, uint32_t *tags, size_t tags_length, int16_t *counts,
+                                              size_t counts_length, uint32_t *clock, uint32_t time, const uint8_t *packet,
+                                              size_t packet_length);
 
 /* `spritgrommet_gateway_judge_frame` below, over its parts. */
-struct spritgrommet_answer spritgrommet_judge_frame(struct spritgrommet_settings settings, const uint8_t *cell, size_t cell_length,
-                                                    const uint8_t *plant, size_t plant_length, uint8_t *records, size_t records_length,
-                                                    uint32_t *tags, size_t tags_length, int16_t *counts, size_t counts_length,
-                                                    uint32_t *clock, uint32_t time, const uint8_t *frame, size_t frame_length);
+struct spritgrommet_answer spritgrommet_judge_frame(struct spritgrommet_limits limits, struct spritgrommet_placing placing,
+                                                    const uint8_t *cell, size_t cell_length, const uint8_t *plant, size_t plant_length,
+                                                    uint8_t *records, size_t records_length, uint32_t *tags, size_t tags_length,
+                                                    int16_t *counts, size_t counts_length, uint32_t *clock, uint32_t time,
+                                                    const uint8_t *frame, size_t frame_length);
 
 /* Which entry of the side lists decides on an address: the longest prefix that holds it; at equal length the cell list wins; inside a
  * list the first such entry. It is never refused: a list that number 3 refuses is read entry by entry all the same, where one with a prefix
@@ -195,16 +215,18 @@ struct spritgrommet_written spritgrommet_put_record(uint8_t *room, size_t room_l
                                                     uint32_t original, const uint8_t *frame, size_t frame_length);
 
 /* `spritgrommet_gateway_why` below, over its parts, in libembed_why.a. Tables and clock are only read. */
-struct spritgrommet_reason spritgrommet_why(struct spritgrommet_settings settings, const uint8_t *cell, size_t cell_length,
-                                            const uint8_t *plant, size_t plant_length, const uint8_t *records, size_t records_length,
-                                            const uint32_t *tags, size_t tags_length, const int16_t *counts, size_t counts_length,
-                                            const uint32_t *clock, uint32_t time, const uint8_t *packet, size_t packet_length);
+struct spritgrommet_reason spritgrommet_why(struct spritgrommet_limits limits, struct spritgrommet_placing placing, const uint8_t *cell,
+                                            size_t cell_length, const uint8_t *plant, size_t plant_length, const uint8_t *records,
+                                            size_t records_length, const uint32_t *tags, size_t tags_length, const int16_t *counts,
+                                            size_t counts_length, const uint32_t *clock, uint32_t time, const uint8_t *packet,
+                                            size_t packet_length);
 
 /* `spritgrommet_gateway_why_frame` below, over its parts, in libembed_why.a. Tables and clock are only read. */
-struct spritgrommet_reason spritgrommet_why_frame(struct spritgrommet_settings settings, const uint8_t *cell, size_t cell_length,
-                                                  const uint8_t *plant, size_t plant_length, const uint8_t *records, size_t records_length,
-                                                  const uint32_t *tags, size_t tags_length, const int16_t *counts, size_t counts_length,
-                                                  const uint32_t *clock, uint32_t time, const uint8_t *frame, size_t frame_length);
+struct spritgrommet_reason spritgrommet_why_frame(struct spritgrommet_limits limits, struct spritgrommet_placing placing,
+                                                  const uint8_t *cell, size_t cell_length, const uint8_t *plant, size_t plant_length,
+                                                  const uint8_t *records, size_t records_length, const uint32_t *tags, size_t tags_length,
+                                                  const int16_t *counts, size_t counts_length, const uint32_t *clock, uint32_t time,
+                                                  const uint8_t *frame, size_t frame_length);
 
 /* ---- the same, over a gateway: the name of each has the word `gateway` before the name above ---- */
 
@@ -215,33 +237,38 @@ struct spritgrommet_list {
     size_t length; /* in bytes */
 };
 
-/* A gateway: all that a call works on. Where it starts cold, what the tables and the clock held before does not matter. Records are best
+/* A gateway: all that a call works on. Where it starts cold, what tables, clock and placing held before does not matter. Records are best
  * lent at a multiple of 64 bytes: a minute boundary takes 64 of them at a time, and stores only to those that differ afterwards, which are
  * the ones that are not 0 (that it stores to no other is tested, not proved). */
 struct spritgrommet {
-    struct spritgrommet_settings settings;
-    struct spritgrommet_list cell;  /* outside: may be infected */
-    struct spritgrommet_list plant; /* inside: to be protected */
-    uint8_t *records;               /* connection table: a power of two of one-byte records, 16 to 1,048,576 */
+    struct spritgrommet_settings settings; /* the keys are read by a start alone */
+    struct spritgrommet_list cell;         /* outside: may be infected */
+    struct spritgrommet_list plant;        /* inside: to be protected */
+    uint8_t *records;                      /* connection table: a power of two of one-byte records, 16 to 1,048,576 */
     size_t record_count;
     uint32_t *tags;  /* address table: 1 to 262,144 lines, a power of two, four entries each: their tags, */
     int16_t *counts; /* and their counts */
     size_t entry_count; /* four times the number of lines */
     uint32_t clock;     /* whole seconds */
+    struct spritgrommet_placing placing; /* what places packets in the tables: written by a start that is not refused, and by no one else */
 };
 
 /* Starts cold: 0 to every record and tag, -32,768 to every count, and the clock at the time. Answers 0, 1 or 2. */
 static inline uint8_t spritgrommet_gateway_cold_start(struct spritgrommet *gateway, uint32_t time)
 {
-    return spritgrommet_cold_start(gateway->settings, gateway->records, gateway->record_count, gateway->tags, gateway->entry_count,
-                                   gateway->counts, gateway->entry_count, &gateway->clock, time);
+    const struct spritgrommet_started started =
+        spritgrommet_cold_start(gateway->settings, gateway->records, gateway->record_count, gateway->tags, gateway->entry_count,
+                                gateway->counts, gateway->entry_count, &gateway->clock, time);
+    if (started.refusal == 0)
+        gateway->placing = started.placing;
+    return started.refusal;
 }
 
 /* Passes a time, with no packet: records age and counts fall as the clock says. Answers 0, 1, 2 or 4. */
 static inline uint8_t spritgrommet_gateway_pass(struct spritgrommet *gateway, uint32_t time)
 {
-    return spritgrommet_pass(gateway->settings, gateway->records, gateway->record_count, gateway->tags, gateway->entry_count,
-                             gateway->counts, gateway->entry_count, &gateway->clock, time);
+    return spritgrommet_pass(gateway->settings.limits, gateway->placing, gateway->records, gateway->record_count, gateway->tags,
+                             gateway->entry_count, gateway->counts, gateway->entry_count, &gateway->clock, time);
 }
 
 /* Judges a packet, from its IPv4 header on, that comes at a time. Answers a refusal, 1 to 6, or the verdict: 5 and 6 are dropped, 1 to 4
@@ -249,9 +276,9 @@ static inline uint8_t spritgrommet_gateway_pass(struct spritgrommet *gateway, ui
 static inline struct spritgrommet_answer spritgrommet_gateway_judge(struct spritgrommet *gateway, uint32_t time, const uint8_t *packet,
                                                                     size_t length)
 {
-    return spritgrommet_judge(gateway->settings, gateway->cell.bytes, gateway->cell.length, gateway->plant.bytes, gateway->plant.length,
-                              gateway->records, gateway->record_count, gateway->tags, gateway->entry_count, gateway->counts,
-                              gateway->entry_count, &gateway->clock, time, packet, length);
+    return spritgrommet_judge(gateway->settings.limits, gateway->placing, gateway->cell.bytes, gateway->cell.length, gateway->plant.bytes,
+                              gateway->plant.length, gateway->records, gateway->record_count, gateway->tags, gateway->entry_count,
+                              gateway->counts, gateway->entry_count, &gateway->clock, time, packet, length);
 }
 
 /* The same for an Ethernet frame. One under 14 bytes is refused by 5, and an EtherType other than 0x0800 gets verdict 0; neither reaches
@@ -259,9 +286,9 @@ static inline struct spritgrommet_answer spritgrommet_gateway_judge(struct sprit
 static inline struct spritgrommet_answer spritgrommet_gateway_judge_frame(struct spritgrommet *gateway, uint32_t time,
                                                                           const uint8_t *frame, size_t length)
 {
-    return spritgrommet_judge_frame(gateway->settings, gateway->cell.bytes, gateway->cell.length, gateway->plant.bytes,
-                                    gateway->plant.length, gateway->records, gateway->record_count, gateway->tags, gateway->entry_count,
-                                    gateway->counts, gateway->entry_count, &gateway->clock, time, frame, length);
+    return spritgrommet_judge_frame(gateway->settings.limits, gateway->placing, gateway->cell.bytes, gateway->cell.length,
+                                    gateway->plant.bytes, gateway->plant.length, gateway->records, gateway->record_count, gateway->tags,
+                                    gateway->entry_count, gateway->counts, gateway->entry_count, &gateway->clock, time, frame, length);
 }
 
 /* Why a packet, from its IPv4 header on, that comes at a time is dropped, if it is. Answers the refusal or the verdict that
@@ -271,18 +298,18 @@ static inline struct spritgrommet_answer spritgrommet_gateway_judge_frame(struct
 static inline struct spritgrommet_reason spritgrommet_gateway_why(const struct spritgrommet *gateway, uint32_t time,
                                                                   const uint8_t *packet, size_t length)
 {
-    return spritgrommet_why(gateway->settings, gateway->cell.bytes, gateway->cell.length, gateway->plant.bytes, gateway->plant.length,
-                            gateway->records, gateway->record_count, gateway->tags, gateway->entry_count, gateway->counts,
-                            gateway->entry_count, &gateway->clock, time, packet, length);
+    return spritgrommet_why(gateway->settings.limits, gateway->placing, gateway->cell.bytes, gateway->cell.length, gateway->plant.bytes,
+                            gateway->plant.length, gateway->records, gateway->record_count, gateway->tags, gateway->entry_count,
+                            gateway->counts, gateway->entry_count, &gateway->clock, time, packet, length);
 }
 
 /* The same for an Ethernet frame, with the refusal or the verdict that `spritgrommet_gateway_judge_frame` would answer. */
 static inline struct spritgrommet_reason spritgrommet_gateway_why_frame(const struct spritgrommet *gateway, uint32_t time,
                                                                         const uint8_t *frame, size_t length)
 {
-    return spritgrommet_why_frame(gateway->settings, gateway->cell.bytes, gateway->cell.length, gateway->plant.bytes,
-                                  gateway->plant.length, gateway->records, gateway->record_count, gateway->tags, gateway->entry_count,
-                                  gateway->counts, gateway->entry_count, &gateway->clock, time, frame, length);
+    return spritgrommet_why_frame(gateway->settings.limits, gateway->placing, gateway->cell.bytes, gateway->cell.length,
+                                  gateway->plant.bytes, gateway->plant.length, gateway->records, gateway->record_count, gateway->tags,
+                                  gateway->entry_count, gateway->counts, gateway->entry_count, &gateway->clock, time, frame, length);
 }
 
 #ifdef __cplusplus

@@ -9,11 +9,11 @@
 
 enum { ROUNDS = 41, MOST_ARCHIVES = 8, LARGEST = 1 << 20, LINE = 64 };
 
-/* An archive: its name, the function that is timed, and settings for it. */
+/* An archive: its name, the function that is timed, and limits for it. */
 struct archive {
     const char *name;
     __typeof__(spritgrommet_pass) *pass;
-    struct spritgrommet_settings settings;
+    struct spritgrommet_limits limits;
 };
 
 /* How many records, how many in a thousand are marked, and whether the table is out of the caches at each boundary. */
@@ -51,10 +51,11 @@ static void fill(uint8_t *records, const struct trial *trial) {
 
 /* So many minute boundaries, one to a call. */
 static void pass_minutes(const struct archive *by, uint8_t *records, size_t length, uint32_t *clock, int minutes) {
+    const struct spritgrommet_placing placing = {0}; /* no boundary looks at it */
     uint32_t tags[4] = {0};
     int16_t counts[4] = {-32768, -32768, -32768, -32768};
     for (int minute = 0; minute < minutes; minute++)
-        if (by->pass(by->settings, records, length, tags, 4, counts, 4, clock, *clock + 60) != 0) exit(1);
+        if (by->pass(by->limits, placing, records, length, tags, 4, counts, 4, clock, *clock + 60) != 0) exit(1);
 }
 
 /* Nanoseconds a record: of warm ones over all boundaries, of cold ones over each by itself. */
@@ -91,7 +92,7 @@ static void put_rows(const struct trial *trial, int count, const struct archive 
                times[which][ROUNDS - 1], times[which][ROUNDS / 2] / times[0][ROUNDS / 2]);
 }
 
-/* A shared library's functions, and the factory settings but for two that let a boundary do nothing but age. */
+/* A shared library's function, and the factory's limits but for the largest Dmiss and Dconn. */
 static int is_opened(struct archive *archive, const char *name, const char *library_name) {
     void *library = dlopen(library_name, RTLD_NOW | RTLD_LOCAL);
     __typeof__(spritgrommet_factory) *factory;
@@ -99,9 +100,9 @@ static int is_opened(struct archive *archive, const char *name, const char *libr
     *(void **)&archive->pass = library ? dlsym(library, "spritgrommet_pass") : NULL;
     *(void **)&factory = library ? dlsym(library, "spritgrommet_factory") : NULL;
     if (!archive->pass || !factory) return 0;
-    archive->settings = factory();
-    archive->settings.dmiss = 3600;
-    archive->settings.dconn = 62;
+    archive->limits = factory().limits;
+    archive->limits.dmiss = 3600;
+    archive->limits.dconn = 62;
     return 1;
 }
 

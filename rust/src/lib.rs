@@ -11,7 +11,7 @@ use std::error::Error;
 use std::fmt;
 
 pub use capture::{Capture, CaptureWriter, Record};
-pub use raw::{decrypt, encrypt, Entry, Settings, Tally};
+pub use raw::{decrypt, encrypt, Entry, Limits, Settings, Tally};
 
 /// A gateway with a setting outside its range, document 01's, is refused by 1. Settings are made from the factory's, by what differs:
 /// `Settings::factory().with_threshold(10)`.
@@ -28,22 +28,22 @@ impl Settings {
 
     /// The same with another T.
     pub fn with_threshold(self, threshold: u16) -> Settings {
-        Settings { threshold, ..self }
+        Settings { limits: Limits { threshold, ..self.limits }, ..self }
     }
 
     /// The same with another Cmin.
     pub fn with_floor(self, floor: i16) -> Settings {
-        Settings { floor, ..self }
+        Settings { limits: Limits { floor, ..self.limits }, ..self }
     }
 
     /// The same with another Dmiss.
     pub fn with_dmiss(self, dmiss: u16) -> Settings {
-        Settings { dmiss, ..self }
+        Settings { limits: Limits { dmiss, ..self.limits }, ..self }
     }
 
     /// The same with another Dconn.
     pub fn with_dconn(self, dconn: u8) -> Settings {
-        Settings { dconn, ..self }
+        Settings { limits: Limits { dconn, ..self.limits }, ..self }
     }
 }
 
@@ -227,7 +227,9 @@ const MOST_LINES: usize = 262_144;
 /// A gateway that owns its tables.
 #[derive(Clone, Debug, PartialEq, Eq)]
 pub struct Gateway {
-    settings: Settings,
+    limits: Limits,
+    /// As the start answered it.
+    placing: raw::Placing,
     cell: Vec<u8>,
     plant: Vec<u8>,
     records: Vec<u8>,
@@ -251,9 +253,10 @@ impl Gateway {
         let (records, entries) = if fits { (records, 4 * lines) } else { (0, 0) };
         let (cell, plant) = (cell.to_vec(), plant.to_vec());
         let (mut records, mut tags, mut counts, mut clock) = (vec![0; records], vec![0; entries], vec![0; entries], 0);
-        let refusal = raw::cold_start(settings, &mut records, &mut tags, &mut counts, &mut clock, time);
-        unless_refused(refusal)?;
-        Ok(Gateway { settings, cell, plant, records, tags, counts, clock })
+        let started = raw::cold_start(settings, &mut records, &mut tags, &mut counts, &mut clock, time);
+        unless_refused(started.refusal)?;
+        let (limits, placing) = (settings.limits, started.placing);
+        Ok(Gateway { limits, placing, cell, plant, records, tags, counts, clock })
     }
 
     /// The gateway's clock: the time of the start, or of the last time or packet that reached it.
@@ -263,34 +266,34 @@ impl Gateway {
 
     /// Passes a time, with no packet. Refused by 4 where it is before the clock.
     pub fn pass(&mut self, time: u32) -> Result<(), Refusal> {
-        let Gateway { settings, records, tags, counts, clock, .. } = self;
-        unless_refused(raw::pass(*settings, records, tags, counts, clock, time))
+        let Gateway { limits, placing, records, tags, counts, clock, .. } = self;
+        unless_refused(raw::pass(*limits, *placing, records, tags, counts, clock, time))
     }
 
     /// Judges a packet, from its IPv4 header on, that comes at a time. Refused by 3 to 6.
     pub fn judge(&mut self, time: u32, packet: &[u8]) -> Result<Answer, Refusal> {
-        let Gateway { settings, cell, plant, records, tags, counts, clock } = self;
-        answer_of(raw::judge(*settings, cell, plant, records, tags, counts, clock, time, packet))
+        let Gateway { limits, placing, cell, plant, records, tags, counts, clock } = self;
+        answer_of(raw::judge(*limits, *placing, cell, plant, records, tags, counts, clock, time, packet))
     }
 
     /// Judges what an Ethernet frame that comes at a time carries. One under 14 bytes is refused by 5, and an EtherType other than 0x0800
     /// gets verdict 0; neither reaches the gateway.
     pub fn judge_frame(&mut self, time: u32, frame: &[u8]) -> Result<Answer, Refusal> {
-        let Gateway { settings, cell, plant, records, tags, counts, clock } = self;
-        answer_of(raw::judge_frame(*settings, cell, plant, records, tags, counts, clock, time, frame))
+        let Gateway { limits, placing, cell, plant, records, tags, counts, clock } = self;
+        answer_of(raw::judge_frame(*limits, *placing, cell, plant, records, tags, counts, clock, time, frame))
     }
 
     /// Why a packet, from its IPv4 header on, that comes at a time is dropped, if it is. To be asked before the packet is judged: the
     /// answer is about the tables as they would stand at that second. Refused exactly as the packet would be; nothing is changed.
     pub fn why(&self, time: u32, packet: &[u8]) -> Result<Reason, Refusal> {
-        let Gateway { settings, cell, plant, records, tags, counts, clock } = self;
-        reason_of(raw::why(*settings, cell, plant, records, tags, counts, clock, time, packet))
+        let Gateway { limits, placing, cell, plant, records, tags, counts, clock } = self;
+        reason_of(raw::why(*limits, *placing, cell, plant, records, tags, counts, clock, time, packet))
     }
 
     /// Why what an Ethernet frame that comes at a time carries is dropped, if it is: as for a packet, with the refusal or the verdict that
     /// `judge_frame` would answer.
     pub fn why_frame(&self, time: u32, frame: &[u8]) -> Result<Reason, Refusal> {
-        let Gateway { settings, cell, plant, records, tags, counts, clock } = self;
-        reason_of(raw::why_frame(*settings, cell, plant, records, tags, counts, clock, time, frame))
+        let Gateway { limits, placing, cell, plant, records, tags, counts, clock } = self;
+        reason_of(raw::why_frame(*limits, *placing, cell, plant, records, tags, counts, clock, time, frame))
     }
 }

@@ -2,13 +2,11 @@
 //! crates/embed_why/src. include/spritgrommet.h says what each function does, and what a caller by pointers has to keep to.
 #![allow(clippy::too_many_arguments)]
 
-/// The type of each number is wider than its range, so that a value outside it can be given, and is refused. Laid out as C does, for the
-/// programs that link the gateway; the keys come first, so that a copy of them is an aligned one.
+/// The settings that have a range, which every call of a gateway takes. The type of each number is wider than its range, so that a value
+/// outside it can be given, and is refused. Laid out as C does, for the programs that link the gateway.
 #[repr(C)]
 #[derive(Clone, Copy, Debug, PartialEq, Eq)]
-pub struct Settings {
-    /// The eight round keys of the address permutation.
-    pub keys: [u32; 8],
+pub struct Limits {
     /// T: a cell address is blocked when its count is at least this.
     pub threshold: u16,
     /// Cmin: no credit lowers a count below this.
@@ -17,6 +15,34 @@ pub struct Settings {
     pub dmiss: u16,
     /// Dconn: a connection record lives over so many minute boundaries.
     pub dconn: u8,
+}
+
+/// All settings of a gateway. The keys are free, and a cold start alone takes them: from then on the gateway runs on those of its state.
+/// They come first, so that a copy of them is an aligned one.
+#[repr(C)]
+#[derive(Clone, Copy, Debug, PartialEq, Eq)]
+pub struct Settings {
+    /// The eight round keys of the address permutation.
+    pub keys: [u32; 8],
+    pub limits: Limits,
+}
+
+/// What places packets in a gateway's tables: it is part of the gateway's state, a start sets it, and no other call changes it. Laid out as
+/// C does, for the programs that link the gateway.
+#[repr(C)]
+#[derive(Clone, Copy, Debug, PartialEq, Eq)]
+pub struct Placing {
+    /// The eight round keys of the address permutation.
+    pub keys: [u32; 8],
+}
+
+/// The answer to a start: the number of its refusal, or 0; and what places packets in the tables, on which the gateway runs where it is not
+/// refused.
+#[repr(C)]
+#[derive(Clone, Copy, Debug, PartialEq, Eq)]
+pub struct PlainStarted {
+    pub refusal: u8,
+    pub placing: Placing,
 }
 
 /// The answer to a packet: the number of its refusal, or 0; the verdict, 0 to 6; the cell address's count after it; 1 where an address lost
@@ -135,9 +161,10 @@ extern "C" {
         counts_length: usize,
         clock: *mut u32,
         time: u32,
-    ) -> u8;
+    ) -> PlainStarted;
     pub fn spritgrommet_pass(
-        settings: Settings,
+        limits: Limits,
+        placing: Placing,
         records: *mut u8,
         records_length: usize,
         tags: *mut u32,
@@ -148,7 +175,8 @@ extern "C" {
         time: u32,
     ) -> u8;
     pub fn spritgrommet_judge(
-        settings: Settings,
+        limits: Limits,
+        placing: Placing,
         cell: *const u8,
         cell_length: usize,
         plant: *const u8,
@@ -165,7 +193,8 @@ extern "C" {
         packet_length: usize,
     ) -> PlainAnswer;
     pub fn spritgrommet_judge_frame(
-        settings: Settings,
+        limits: Limits,
+        placing: Placing,
         cell: *const u8,
         cell_length: usize,
         plant: *const u8,
@@ -205,7 +234,8 @@ extern "C" {
         frame_length: usize,
     ) -> PlainWritten;
     pub fn spritgrommet_why(
-        settings: Settings,
+        limits: Limits,
+        placing: Placing,
         cell: *const u8,
         cell_length: usize,
         plant: *const u8,
@@ -222,7 +252,8 @@ extern "C" {
         packet_length: usize,
     ) -> PlainReason;
     pub fn spritgrommet_why_frame(
-        settings: Settings,
+        limits: Limits,
+        placing: Placing,
         cell: *const u8,
         cell_length: usize,
         plant: *const u8,
@@ -249,7 +280,7 @@ pub fn factory() -> Settings {
     unsafe { spritgrommet_factory() }
 }
 
-/// Starts cold at a time. The answer is the number of the refusal, or 0.
+/// Starts cold at a time. The answer is the number of the refusal, or 0, and what places packets in the tables, for the calls that follow.
 #[inline]
 pub fn cold_start(
     settings: Settings,
@@ -258,7 +289,7 @@ pub fn cold_start(
     counts: &mut [i16],
     clock: &mut u32,
     time: u32,
-) -> u8 {
+) -> PlainStarted {
     unsafe {
         spritgrommet_cold_start(
             settings,
@@ -276,10 +307,19 @@ pub fn cold_start(
 
 /// Passes a time, with no packet. The answer is the number of the refusal, or 0.
 #[inline]
-pub fn pass(settings: Settings, records: &mut [u8], tags: &mut [u32], counts: &mut [i16], clock: &mut u32, time: u32) -> u8 {
+pub fn pass(
+    limits: Limits,
+    placing: Placing,
+    records: &mut [u8],
+    tags: &mut [u32],
+    counts: &mut [i16],
+    clock: &mut u32,
+    time: u32,
+) -> u8 {
     unsafe {
         spritgrommet_pass(
-            settings,
+            limits,
+            placing,
             records.as_mut_ptr(),
             records.len(),
             tags.as_mut_ptr(),
@@ -295,7 +335,8 @@ pub fn pass(settings: Settings, records: &mut [u8], tags: &mut [u32], counts: &m
 /// Judges a packet, from its IPv4 header on, that comes at a time. The answer is the refusal, or the verdict with what belongs to it.
 #[inline]
 pub fn judge(
-    settings: Settings,
+    limits: Limits,
+    placing: Placing,
     cell: &[u8],
     plant: &[u8],
     records: &mut [u8],
@@ -307,7 +348,8 @@ pub fn judge(
 ) -> PlainAnswer {
     unsafe {
         spritgrommet_judge(
-            settings,
+            limits,
+            placing,
             cell.as_ptr(),
             cell.len(),
             plant.as_ptr(),
@@ -330,7 +372,8 @@ pub fn judge(
 /// by `frames::judge`, so that the archive has the judge once, in the function that is called for every packet.
 #[inline]
 pub fn judge_frame(
-    settings: Settings,
+    limits: Limits,
+    placing: Placing,
     cell: &[u8],
     plant: &[u8],
     records: &mut [u8],
@@ -342,7 +385,8 @@ pub fn judge_frame(
 ) -> PlainAnswer {
     unsafe {
         spritgrommet_judge_frame(
-            settings,
+            limits,
+            placing,
             cell.as_ptr(),
             cell.len(),
             plant.as_ptr(),
@@ -414,7 +458,8 @@ pub fn put_record(room: &mut [u8], at: usize, seconds: u32, microseconds: u32, o
 /// Why a packet, from its IPv4 header on, that comes at a time is dropped. Tables and clock are only read.
 #[inline]
 pub fn why(
-    settings: Settings,
+    limits: Limits,
+    placing: Placing,
     cell: &[u8],
     plant: &[u8],
     records: &[u8],
@@ -426,7 +471,8 @@ pub fn why(
 ) -> PlainReason {
     unsafe {
         spritgrommet_why(
-            settings,
+            limits,
+            placing,
             cell.as_ptr(),
             cell.len(),
             plant.as_ptr(),
@@ -448,7 +494,8 @@ pub fn why(
 /// Why what an Ethernet frame that comes at a time carries is dropped. Tables and clock are only read.
 #[inline]
 pub fn why_frame(
-    settings: Settings,
+    limits: Limits,
+    placing: Placing,
     cell: &[u8],
     plant: &[u8],
     records: &[u8],
@@ -460,7 +507,8 @@ pub fn why_frame(
 ) -> PlainReason {
     unsafe {
         spritgrommet_why_frame(
-            settings,
+            limits,
+            placing,
             cell.as_ptr(),
             cell.len(),
             plant.as_ptr(),

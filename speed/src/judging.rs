@@ -101,14 +101,14 @@ fn require_same(trace: &Trace, told: &[Told], ours: &Caller, other: &mut impl Ju
 /// Stops unless the plain program that tests each call refuses what ours does.
 fn compare_refusals() {
     let spoils: [fn(&mut Caller); 18] = [
-        |lent| lent.settings.threshold = 0,
-        |lent| lent.settings.threshold = 256,
-        |lent| lent.settings.floor = -1001,
-        |lent| lent.settings.floor = 1,
-        |lent| lent.settings.dmiss = 0,
-        |lent| lent.settings.dmiss = 3601,
-        |lent| lent.settings.dconn = 0,
-        |lent| lent.settings.dconn = 63,
+        |lent| lent.settings.limits.threshold = 0,
+        |lent| lent.settings.limits.threshold = 256,
+        |lent| lent.settings.limits.floor = -1001,
+        |lent| lent.settings.limits.floor = 1,
+        |lent| lent.settings.limits.dmiss = 0,
+        |lent| lent.settings.limits.dmiss = 3601,
+        |lent| lent.settings.limits.dconn = 0,
+        |lent| lent.settings.limits.dconn = 63,
         |lent| lent.records.truncate(8),
         |lent| lent.records.truncate(48),
         |lent| lent.records.resize(1 << 21, 0),

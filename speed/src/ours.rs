@@ -1,10 +1,10 @@
 //! The proved gateway's calls that are timed, and memory to lend them. include/spritgrommet.h says what they do.
 
 use crate::judging::{Judge, Left, Told};
-use spritgrommet::raw::{self, PlainAnswer};
+use spritgrommet::raw::{self, Placing, PlainAnswer};
 
 pub use spritgrommet::raw::pass;
-pub use spritgrommet::{encrypt, Settings};
+pub use spritgrommet::{encrypt, Limits, Settings};
 
 /// With none, some additions would cost nothing.
 pub const KEYS: [u32; 8] =
@@ -18,6 +18,7 @@ pub fn settings() -> Settings {
 /// The caller's side: all that is lent at each call.
 pub struct Caller {
     pub settings: Settings,
+    pub placing: Placing,
     pub cell: Vec<u8>,
     pub plant: Vec<u8>,
     pub records: Vec<u8>,
@@ -27,10 +28,13 @@ pub struct Caller {
 }
 
 impl Caller {
-    /// It is to be started cold before its first packet.
+    /// Started cold at time 0.
     pub fn new(settings: Settings, cell: &[u8], plant: &[u8], records: usize, lines: usize) -> Caller {
-        let (records, tags, counts) = (vec![0; records], vec![0; 4 * lines], vec![0; 4 * lines]);
-        Caller { settings, cell: cell.to_vec(), plant: plant.to_vec(), records, tags, counts, clock: 0 }
+        let (cell, plant, mut clock) = (cell.to_vec(), plant.to_vec(), 0);
+        let (mut records, mut tags, mut counts) = (vec![0; records], vec![0; 4 * lines], vec![0; 4 * lines]);
+        let started = raw::cold_start(settings, &mut records, &mut tags, &mut counts, &mut clock, 0);
+        assert_eq!(started.refusal, 0, "the cold start was refused");
+        Caller { settings, placing: started.placing, cell, plant, records, tags, counts, clock }
     }
 }
 
@@ -39,14 +43,15 @@ impl Judge for Caller {
 
     fn cold_start(&mut self, time: u32) {
         let Caller { settings, records, tags, counts, clock, .. } = self;
-        let refusal = raw::cold_start(*settings, records, tags, counts, clock, time);
-        assert_eq!(refusal, 0, "the cold start was refused");
+        let started = raw::cold_start(*settings, records, tags, counts, clock, time);
+        assert_eq!(started.refusal, 0, "the cold start was refused");
+        self.placing = started.placing;
     }
 
     #[inline]
     fn judge(&mut self, time: u32, packet: &[u8]) -> PlainAnswer {
-        let Caller { settings, cell, plant, records, tags, counts, clock } = self;
-        raw::judge(*settings, cell, plant, records, tags, counts, clock, time, packet)
+        let Caller { settings, placing, cell, plant, records, tags, counts, clock } = self;
+        raw::judge(settings.limits, *placing, cell, plant, records, tags, counts, clock, time, packet)
     }
 
     fn told(answer: PlainAnswer) -> Told {

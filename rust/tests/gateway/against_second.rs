@@ -5,7 +5,7 @@ use crate::random::Random;
 use second::gateway::{Gateway as Second, Settings as SecondSettings};
 use second::samples;
 use second::sides::Sides;
-use spritgrommet::{Answer, Gateway, Refusal, Settings, Tally};
+use spritgrommet::{Answer, Gateway, Limits, Refusal, Settings, Tally};
 
 type Entry = (u32, u32);
 
@@ -35,13 +35,8 @@ fn settings(random: &mut Random) -> Settings {
 }
 
 fn second_settings(settings: &Settings) -> SecondSettings {
-    SecondSettings {
-        threshold: settings.threshold.into(),
-        floor: settings.floor.into(),
-        dmiss: settings.dmiss.into(),
-        dconn: settings.dconn.into(),
-        keys: settings.keys,
-    }
+    let Settings { keys, limits: Limits { threshold, floor, dmiss, dconn } } = *settings;
+    SecondSettings { threshold: threshold.into(), floor: floor.into(), dmiss: dmiss.into(), dconn: dconn.into(), keys }
 }
 
 /// One gateway of each, with the same settings, side lists, sizes and start.

@@ -2,9 +2,9 @@
 
 use crate::random::Random;
 use second::samples;
-use spritgrommet::raw::{self, PlainAnswer};
+use spritgrommet::raw::{self, Placing, PlainAnswer};
 use spritgrommet::{decrypt, encrypt, winner};
-use spritgrommet::{Answer, Capture, CaptureWriter, Gateway, Record, Refusal, Settings, Side, Tally, Verdict};
+use spritgrommet::{Answer, Capture, CaptureWriter, Gateway, Limits, Record, Refusal, Settings, Side, Tally, Verdict};
 
 pub const CELL: [u8; 5] = [10, 0, 0, 0, 8];
 pub const PLANT: [u8; 5] = [192, 168, 0, 0, 16];
@@ -13,10 +13,25 @@ pub fn start(settings: Settings, records: usize, lines: usize) -> Result<Gateway
     Gateway::cold_start(settings, &CELL, &PLANT, records, lines, 100)
 }
 
+/// What a start with these settings, which are good, answers for later calls to take.
+pub fn placing(settings: Settings) -> Placing {
+    let started = raw::cold_start(settings, &mut [0; 16], &mut [0; 4], &mut [0; 4], &mut 0, 0);
+    assert_eq!(started.refusal, 0);
+    started.placing
+}
+
 #[test]
 fn factory_settings() {
-    let factory = Settings { threshold: 5, floor: -20, dmiss: 60, dconn: 10, keys: [0; 8] };
+    let limits = Limits { threshold: 5, floor: -20, dmiss: 60, dconn: 10 };
+    let factory = Settings { keys: [0; 8], limits };
     assert_eq!(Settings::factory(), factory);
+}
+
+/// The keys that are set are those on which a gateway runs.
+#[test]
+fn keys_of_a_start() {
+    let keys = [1, 2, 3, 4, 5, 6, 7, u32::MAX];
+    assert_eq!(placing(Settings::factory().with_keys(keys)), Placing { keys });
 }
 
 #[test]

@@ -11,8 +11,8 @@ use second::header::Kind;
 use second::samples::{self, CELL, PLANT};
 use second::sides::Decided;
 use second::why::{self, Facts, KINDS, MARK};
-use spritgrommet::raw::{self, PlainAnswer, PlainReason};
-use spritgrommet::{winner, Answer, Dropped, Entry, Gateway, Reason, Refusal, Settings, Side, Verdict};
+use spritgrommet::raw::{self, Placing, PlainAnswer, PlainReason};
+use spritgrommet::{winner, Answer, Dropped, Entry, Gateway, Limits, Reason, Refusal, Settings, Side, Verdict};
 use std::collections::{BTreeMap, BTreeSet};
 
 /// The count of an entry that is empty.
@@ -26,7 +26,8 @@ const OF_PLANT: Entry = Entry { number: 1, address: 0xC0A8_0000, prefix: 16 };
 /// All that the archive's functions are lent, or a copy of it.
 #[derive(Clone, Debug, PartialEq, Eq)]
 struct Lent {
-    settings: Settings,
+    limits: Limits,
+    placing: Placing,
     cell: Vec<u8>,
     plant: Vec<u8>,
     records: Vec<u8>,
@@ -37,30 +38,30 @@ struct Lent {
 
 impl Lent {
     fn why(&self, time: u32, packet: &[u8]) -> PlainReason {
-        let Lent { settings, cell, plant, records, tags, counts, clock } = self;
-        raw::why(*settings, cell, plant, records, tags, counts, clock, time, packet)
+        let Lent { limits, placing, cell, plant, records, tags, counts, clock } = self;
+        raw::why(*limits, *placing, cell, plant, records, tags, counts, clock, time, packet)
     }
 
     fn why_frame(&self, time: u32, frame: &[u8]) -> PlainReason {
-        let Lent { settings, cell, plant, records, tags, counts, clock } = self;
-        raw::why_frame(*settings, cell, plant, records, tags, counts, clock, time, frame)
+        let Lent { limits, placing, cell, plant, records, tags, counts, clock } = self;
+        raw::why_frame(*limits, *placing, cell, plant, records, tags, counts, clock, time, frame)
     }
 
     fn judge(&mut self, time: u32, packet: &[u8]) -> PlainAnswer {
-        let Lent { settings, cell, plant, records, tags, counts, clock } = self;
-        raw::judge(*settings, cell, plant, records, tags, counts, clock, time, packet)
+        let Lent { limits, placing, cell, plant, records, tags, counts, clock } = self;
+        raw::judge(*limits, *placing, cell, plant, records, tags, counts, clock, time, packet)
     }
 
     fn judge_frame(&mut self, time: u32, frame: &[u8]) -> PlainAnswer {
-        let Lent { settings, cell, plant, records, tags, counts, clock } = self;
-        raw::judge_frame(*settings, cell, plant, records, tags, counts, clock, time, frame)
+        let Lent { limits, placing, cell, plant, records, tags, counts, clock } = self;
+        raw::judge_frame(*limits, *placing, cell, plant, records, tags, counts, clock, time, frame)
     }
 
     /// A copy, after a time has passed.
     fn passed(&self, time: u32) -> Lent {
         let mut copy = self.clone();
-        let Lent { settings, records, tags, counts, clock, .. } = &mut copy;
-        assert_eq!(raw::pass(*settings, records, tags, counts, clock, time), 0);
+        let Lent { limits, placing, records, tags, counts, clock, .. } = &mut copy;
+        assert_eq!(raw::pass(*limits, *placing, records, tags, counts, clock, time), 0);
         copy
     }
 }
@@ -105,8 +106,8 @@ impl Scene {
     fn facts_at(&self, settings: Settings, time: u32) -> Facts {
         let passed = |of: u32| i64::from(time / of - SECOND / of);
         let now = self.facts();
-        let lives = passed(60) == 0 || i64::from(self.age) + passed(60) <= settings.dconn.into();
-        let lowered = 0.max(now.count - passed(settings.dmiss.into()));
+        let lives = passed(60) == 0 || i64::from(self.age) + passed(60) <= settings.limits.dconn.into();
+        let lowered = 0.max(now.count - passed(settings.limits.dmiss.into()));
         Facts {
             count: if now.count > 0 { lowered } else { now.count },
             plant_mark: now.plant_mark && lives,
@@ -139,7 +140,8 @@ impl Scene {
         tags[first..first + 4].copy_from_slice(&[tag ^ 1, tag, tag, tag ^ 2]);
         counts[first..first + 4].copy_from_slice(&[300, EMPTY, self.entry, -7]);
         let (cell, plant) = (calls::CELL.to_vec(), calls::PLANT.to_vec());
-        Lent { settings, cell, plant, records, tags, counts, clock: SECOND }
+        let (limits, placing) = (settings.limits, calls::placing(settings));
+        Lent { limits, placing, cell, plant, records, tags, counts, clock: SECOND }
     }
 
     /// Whether the judge forwards the packet.
@@ -461,13 +463,13 @@ fn refused_as_the_packet_is() {
         (5, changed(0, 0x45)[..39].to_vec()),
         (5, samples::udp(CELL, PLANT)[..27].to_vec()),
     ];
-    let mut numbers = BTreeSet::new();
-    for (by_settings, settings) in settings {
+    let (mut numbers, placing) = (BTreeSet::new(), calls::placing(good));
+    for (by_settings, Settings { limits, .. }) in settings {
         for (by_sizes, [records, tags, counts]) in sizes {
             for (by_list, list) in &lists {
                 let (records, tags, counts) = (vec![0; records], vec![0; tags], vec![EMPTY; counts]);
                 let plant = calls::PLANT.to_vec();
-                let lent = Lent { settings, cell: list.clone(), plant, records, tags, counts, clock: SECOND };
+                let lent = Lent { limits, placing, cell: list.clone(), plant, records, tags, counts, clock: SECOND };
                 // The bad list may be the other one, too.
                 let swapped = Lent { cell: calls::CELL.to_vec(), plant: list.clone(), ..lent.clone() };
                 for (by_time, time) in [(0, SECOND), (0, 200), (4, SECOND - 1)] {
@@ -642,7 +644,7 @@ fn nothing_is_stored_to() {
             // SAFETY: each length is its table's, and each table starts at a multiple of its elements' size.
             let reason = unsafe {
                 raw::spritgrommet_why(
-                    settings, lent.cell.as_ptr(), lent.cell.len(), lent.plant.as_ptr(), lent.plant.len(),
+                    lent.limits, lent.placing, lent.cell.as_ptr(), lent.cell.len(), lent.plant.as_ptr(), lent.plant.len(),
                     records.as_ptr(), records.len(), tags.as_ptr().cast(), lent.tags.len(),
                     counts.as_ptr().cast(), lent.counts.len(), clock.as_ptr().cast(), time, packet.as_ptr(), packet.len(),
                 )
