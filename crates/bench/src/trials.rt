@@ -3,6 +3,7 @@
 use crate::lines;
 use crate::names::*;
 use crate::packets;
+use gateway::Reply;
 use places::Placing;
 use settings::Limits;
 use settings::Settings;
@@ -121,6 +122,20 @@ fn print_kept(kept: bool) {
     }
 }
 
+// Starts cold with these limits.
+fn start(
+    limits: Limits,
+    records: &mut [u8],
+    tags: &mut [u32],
+    counts: &mut [i16],
+    clock: &mut u32,
+    time: u32,
+) -> Reply {
+    let set = Settings { keys: KEYS, limits };
+    let started = gateway::cold_start(set, records, tags, counts, clock, time);
+    started.reply
+}
+
 // Makes the call. What it is lent of each table is cut to what there is by a remainder; no trial asks for more.
 fn finish_with(call: usize, trial: Trial, cell: &[u8], plant: &[u8], packet: &[u8]) {
     let mut records = [9u8; 32];
@@ -158,12 +173,7 @@ fn finish_with(call: usize, trial: Trial, cell: &[u8], plant: &[u8], packet: &[u
             &mut clock,
             time,
         )),
-        _ => {
-            let set = Settings { keys: KEYS, limits };
-            let started = gateway::cold_start(set, lent, lent_tags, lent_counts, &mut clock, time);
-            let reply = started.reply;
-            lines::reply(reply)
-        }
+        _ => lines::reply(start(limits, lent, lent_tags, lent_counts, &mut clock, time)),
     }
     print_kept(is_kept(records, tags, counts, clock));
 }
