@@ -38,18 +38,19 @@ static void print_answer(unsigned number, struct spritgrommet_answer answer)
 
 int main(void)
 {
-    struct spritgrommet gateway = {spritgrommet_factory(), {cell, 5}, {plant, 5}, records, 4096, tags, counts, 1024, 0};
-    gateway.settings.threshold = 10; /* bin/verdicts' own T, and not the factory's */
+    struct spritgrommet gateway = {.settings = spritgrommet_factory(), .cell = {cell, sizeof cell}, .plant = {plant, sizeof plant},
+                                   .records = records, .record_count = 4096, .tags = tags, .counts = counts, .entry_count = 1024};
+    gateway.settings.limits.threshold = 10; /* bin/verdicts' own T, and not the factory's */
     size_t length;
     uint8_t *bytes = read_all(stdin, &length);
     struct spritgrommet_opening opening = spritgrommet_open(bytes, length);
     struct spritgrommet_next next = {opening.refusal, 0, {0, 0, 0, 0, 0, 0}};
     unsigned number = 0, refusals = 0;
     while (!next.refusal && (next = spritgrommet_next(bytes, length, opening.cursor)).whole) {
-        if (number++ == 0 && spritgrommet_start(&gateway, next.record.seconds))
+        if (number++ == 0 && spritgrommet_gateway_cold_start(&gateway, next.record.seconds))
             return 1; /* settings and sizes are good, so that this is never reached */
         struct spritgrommet_answer answer =
-            spritgrommet_frame(&gateway, next.record.seconds, bytes + next.record.from, next.record.captured);
+            spritgrommet_gateway_judge_frame(&gateway, next.record.seconds, bytes + next.record.from, next.record.captured);
         print_answer(number, answer);
         refusals += answer.refusal != 0;
         opening.cursor.at = next.record.end;

@@ -20,13 +20,14 @@ int main(void) {
     /* RST from 10.0.0.1 port 40000 to 192.168.0.1 port 80: an IPv4 header of 20 bytes, and one of TCP. */
     static const uint8_t reset[] = {0x45, 0, 0, 40, 0, 0, 0, 0, 64, 6, 0, 0, 10,   0, 0, 1, 192, 168, 0, 1,
                                     156,  64, 0, 80, 0, 0, 0, 0, 0,  0, 0, 0, 0x50, 4, 0, 0, 0,   0,   0, 0};
-    struct spritgrommet gateway = {spritgrommet_factory(), {cell, sizeof cell}, {plant, sizeof plant}, records, 16, tags, counts, 4, 0};
+    struct spritgrommet gateway = {.settings = spritgrommet_factory(), .cell = {cell, sizeof cell}, .plant = {plant, sizeof plant},
+                                   .records = records, .record_count = 16, .tags = tags, .counts = counts, .entry_count = 4};
     struct spritgrommet_reason reason;
 
-    if (spritgrommet_start(&gateway, 100) != 0) {
+    if (spritgrommet_gateway_cold_start(&gateway, 100) != 0) {
         return 1;
     }
-    reason = spritgrommet_packet_reason(&gateway, 100, reset, sizeof reset);
+    reason = spritgrommet_gateway_why(&gateway, 100, reset, sizeof reset);
     printf("refusal %d verdict %d count %d T %d:%s%s%s%s\n", reason.refusal, reason.verdict, reason.count, reason.threshold,
            reason.by_count ? " count" : "", reason.by_plant_mark ? " plant-mark" : "", reason.by_cell_mark ? " cell-mark" : "",
            reason.by_kind ? " kind" : "");

@@ -9,8 +9,12 @@
 
 enum { ROUNDS = 41, MOST_ARCHIVES = 8, LARGEST = 1 << 20, LINE = 64 };
 
-typedef uint8_t (*pass_function)(struct spritgrommet_settings, uint8_t *, size_t, uint32_t *, size_t, int16_t *, size_t, uint32_t *,
-                                 uint32_t);
+/* An archive: its name, the function that is timed, and limits for it. */
+struct archive {
+    const char *name;
+    __typeof__(spritgrommet_pass) *pass;
+    struct spritgrommet_limits limits;
+};
 
 /* How many records, how many in a thousand are marked, and whether the table is out of the caches at each boundary. */
 struct trial {
@@ -46,16 +50,16 @@ static void fill(uint8_t *records, const struct trial *trial) {
 }
 
 /* So many minute boundaries, one to a call. */
-static void pass_minutes(pass_function pass, uint8_t *records, size_t length, uint32_t *clock, int minutes) {
-    const struct spritgrommet_settings settings = {{0}, 10, -20, 3600, 62};
+static void pass_minutes(const struct archive *by, uint8_t *records, size_t length, uint32_t *clock, int minutes) {
+    const struct spritgrommet_placing placing = {0}; /* no boundary looks at it */
     uint32_t tags[4] = {0};
     int16_t counts[4] = {-32768, -32768, -32768, -32768};
     for (int minute = 0; minute < minutes; minute++)
-        if (pass(settings, records, length, tags, 4, counts, 4, clock, *clock + 60) != 0) exit(1);
+        if (by->pass(by->limits, placing, records, length, tags, 4, counts, 4, clock, *clock + 60) != 0) exit(1);
 }
 
 /* Nanoseconds a record: of warm ones over all boundaries, of cold ones over each by itself. */
-static double round_of(pass_function pass, uint8_t *records, const struct trial *trial) {
+static double round_of(const struct archive *by, uint8_t *records, const struct trial *trial) {
     const int minutes = trial->records < 65536 ? 32 : 8, at_once = trial->is_cold ? 1 : minutes;
     uint32_t clock = 0;
     double taken = 0;
@@ -63,41 +67,52 @@ static double round_of(pass_function pass, uint8_t *records, const struct trial 
         for (size_t slot = 0; trial->is_cold && slot < trial->records; slot += LINE) __builtin_ia32_clflush(records + slot);
         __builtin_ia32_mfence();
         double start = seconds();
-        pass_minutes(pass, records, trial->records, &clock, at_once);
+        pass_minutes(by, records, trial->records, &clock, at_once);
         taken += seconds() - start;
     }
     return taken / minutes / (double)trial->records * 1e9;
 }
 
-static void put_rows(const struct trial *trial, int archives, pass_function *passes, char **words) {
+static void put_rows(const struct trial *trial, int count, const struct archive *archives) {
     static double times[MOST_ARCHIVES][ROUNDS];
     static _Alignas(LINE) uint8_t before[LARGEST], records[LARGEST], first[LARGEST];
     fill(before, trial);
     for (int turn = 0; turn < ROUNDS; turn++) {
-        for (int which = 0; which < archives; which++) {
+        for (int which = 0; which < count; which++) {
             memcpy(records, before, trial->records);
-            times[which][turn] = round_of(passes[which], records, trial);
+            times[which][turn] = round_of(&archives[which], records, trial);
             if (which == 0) memcpy(first, records, trial->records);
-            if (memcmp(first, records, trial->records) != 0) exit((fprintf(stderr, "%s leaves other records\n", words[1 + 2 * which]), 1));
+            if (memcmp(first, records, trial->records) != 0) exit((fprintf(stderr, "%s leaves other records\n", archives[which].name), 1));
         }
     }
-    for (int which = 0; which < archives; which++) qsort(times[which], ROUNDS, sizeof(double), by_size);
-    for (int which = 0; which < archives; which++)
+    for (int which = 0; which < count; which++) qsort(times[which], ROUNDS, sizeof(double), by_size);
+    for (int which = 0; which < count; which++)
         printf("| %zu | %.1f %% | %s | %s | %.4f (%.4f to %.4f) | %.2f |\n", trial->records, trial->marked / 10.0,
-               trial->is_cold ? "cold" : "warm", words[1 + 2 * which], times[which][ROUNDS / 2], times[which][0],
+               trial->is_cold ? "cold" : "warm", archives[which].name, times[which][ROUNDS / 2], times[which][0],
                times[which][ROUNDS - 1], times[which][ROUNDS / 2] / times[0][ROUNDS / 2]);
 }
 
+/* A shared library's function, and the factory's limits but for the largest Dmiss and Dconn. */
+static int is_opened(struct archive *archive, const char *name, const char *library_name) {
+    void *library = dlopen(library_name, RTLD_NOW | RTLD_LOCAL);
+    __typeof__(spritgrommet_factory) *factory;
+    archive->name = name;
+    *(void **)&archive->pass = library ? dlsym(library, "spritgrommet_pass") : NULL;
+    *(void **)&factory = library ? dlsym(library, "spritgrommet_factory") : NULL;
+    if (!archive->pass || !factory) return 0;
+    archive->limits = factory().limits;
+    archive->limits.dmiss = 3600;
+    archive->limits.dconn = 62;
+    return 1;
+}
+
 int main(int count, char **words) {
-    pass_function passes[MOST_ARCHIVES];
-    int archives = (count - 1) / 2;
-    if (archives > MOST_ARCHIVES) return fprintf(stderr, "at most %d archives\n", MOST_ARCHIVES), 1;
-    for (int which = 0; which < archives; which++) {
-        void *library = dlopen(words[2 + 2 * which], RTLD_NOW | RTLD_LOCAL);
-        *(void **)&passes[which] = library ? dlsym(library, "spritgrommet_pass") : NULL;
-        if (!passes[which]) return fprintf(stderr, "%s\n", dlerror()), 1;
-    }
+    struct archive archives[MOST_ARCHIVES];
+    int number = (count - 1) / 2;
+    if (number > MOST_ARCHIVES) return fprintf(stderr, "at most %d archives\n", MOST_ARCHIVES), 1;
+    for (int which = 0; which < number; which++)
+        if (!is_opened(&archives[which], words[1 + 2 * which], words[2 + 2 * which])) return fprintf(stderr, "%s\n", dlerror()), 1;
     puts("| records | marked | caches | archive | ns a record | by the first |\n|---|---|---|---|---|---|");
-    for (size_t at = 0; at < sizeof TRIALS / sizeof *TRIALS; at++) put_rows(&TRIALS[at], archives, passes, words);
+    for (size_t at = 0; at < sizeof TRIALS / sizeof *TRIALS; at++) put_rows(&TRIALS[at], number, archives);
     return 0;
 }

@@ -22,8 +22,7 @@ pub struct Capture<'a> {
 impl<'a> Capture<'a> {
     /// Reads a capture's header. Refused by 7.
     pub fn open(bytes: &'a [u8]) -> Result<Capture<'a>, Refusal> {
-        // SAFETY: the pointer leads to as many bytes as the length says.
-        let opening = unsafe { raw::spritgrommet_open(bytes.as_ptr(), bytes.len()) };
+        let opening = raw::open(bytes);
         crate::unless_refused(opening.refusal)?;
         Ok(Capture { bytes, cursor: opening.cursor, ended: false })
     }
@@ -36,8 +35,7 @@ impl<'a> Iterator for Capture<'a> {
         if self.ended {
             return None;
         }
-        // SAFETY: as in `open`.
-        let next = unsafe { raw::spritgrommet_next(self.bytes.as_ptr(), self.bytes.len(), self.cursor) };
+        let next = raw::next(self.bytes, self.cursor);
         self.ended = next.whole == 0;
         if let Err(refusal) = crate::unless_refused(next.refusal) {
             return Some(Err(refusal));
@@ -45,11 +43,9 @@ impl<'a> Iterator for Capture<'a> {
         if self.ended {
             return None;
         }
-        let read = next.read;
-        self.cursor.at = read.end;
-        let frame = &self.bytes[read.from..read.end];
-        let (seconds, microseconds) = (read.seconds, read.microseconds);
-        Some(Ok(Record { seconds, microseconds, original: read.original, frame }))
+        let raw::Record { seconds, microseconds, original, from, end, .. } = next.record;
+        self.cursor.at = end;
+        Some(Ok(Record { seconds, microseconds, original, frame: &self.bytes[from..end] }))
     }
 }
 
@@ -61,29 +57,16 @@ pub struct CaptureWriter<'a> {
 
 impl<'a> CaptureWriter<'a> {
     /// Writes a capture's header at the front of the room. Refused by 9 where it has no room there.
-    pub fn start(room: &'a mut [u8]) -> Result<CaptureWriter<'a>, Refusal> {
-        // SAFETY: the pointer leads to as many bytes as the length says, and no one else is lent them.
-        let written = unsafe { raw::spritgrommet_put_header(room.as_mut_ptr(), room.len(), 0) };
+    pub fn put_header(room: &'a mut [u8]) -> Result<CaptureWriter<'a>, Refusal> {
+        let written = raw::put_header(room, 0);
         crate::unless_refused(written.refusal)?;
         Ok(CaptureWriter { room, next: written.next })
     }
 
     /// Writes a record behind those before it. Refused by 8 where its frame has more than 2,048 bytes, and then by 9 where it has no room.
-    pub fn put(&mut self, record: &Record) -> Result<(), Refusal> {
-        let (room, frame) = (&mut *self.room, record.frame);
-        // SAFETY: as in `start`; the frame is lent for reading, so that it does not overlap the room.
-        let written = unsafe {
-            raw::spritgrommet_put_record(
-                room.as_mut_ptr(),
-                room.len(),
-                self.next,
-                record.seconds,
-                record.microseconds,
-                record.original,
-                frame.as_ptr(),
-                frame.len(),
-            )
-        };
+    pub fn put_record(&mut self, record: &Record) -> Result<(), Refusal> {
+        let Record { seconds, microseconds, original, frame } = *record;
+        let written = raw::put_record(self.room, self.next, seconds, microseconds, original, frame);
         crate::unless_refused(written.refusal)?;
         self.next = written.next;
         Ok(())

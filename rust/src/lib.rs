@@ -11,28 +11,39 @@ use std::error::Error;
 use std::fmt;
 
 pub use capture::{Capture, CaptureWriter, Record};
+pub use raw::{decrypt, encrypt, Entry, Limits, Settings, Tally};
 
-/// The settings. Their ranges are those of document 01; a gateway with a setting outside its range is refused by 1.
-#[repr(C)]
-#[derive(Clone, Copy, Debug, PartialEq, Eq)]
-pub struct Settings {
-    /// The round keys of the address permutation.
-    pub keys: [u32; 8],
-    /// T: a cell address is blocked when its count is at least this.
-    pub threshold: u16,
-    /// Cmin: no credit lowers a count below this.
-    pub floor: i16,
-    /// Dmiss: at each multiple of so many seconds every positive count falls by one.
-    pub dmiss: u16,
-    /// Dconn: a connection record lives over so many minute boundaries.
-    pub dconn: u8,
-}
-
+/// A gateway with a setting outside its range, document 01's, is refused by 1. Settings are made from the factory's, by what differs:
+/// `Settings::factory().with_threshold(10)`.
 impl Settings {
     /// The factory settings: T 5, Cmin -20, Dmiss 60, Dconn 10, keys all zero.
     pub fn factory() -> Settings {
-        // SAFETY: the function takes nothing and hands out a value.
-        unsafe { raw::spritgrommet_factory() }
+        raw::factory()
+    }
+
+    /// The same with other round keys.
+    pub fn with_keys(self, keys: [u32; 8]) -> Settings {
+        Settings { keys, ..self }
+    }
+
+    /// The same with another T.
+    pub fn with_threshold(self, threshold: u16) -> Settings {
+        Settings { limits: Limits { threshold, ..self.limits }, ..self }
+    }
+
+    /// The same with another Cmin.
+    pub fn with_floor(self, floor: i16) -> Settings {
+        Settings { limits: Limits { floor, ..self.limits }, ..self }
+    }
+
+    /// The same with another Dmiss.
+    pub fn with_dmiss(self, dmiss: u16) -> Settings {
+        Settings { limits: Limits { dmiss, ..self.limits }, ..self }
+    }
+
+    /// The same with another Dconn.
+    pub fn with_dconn(self, dconn: u8) -> Settings {
+        Settings { limits: Limits { dconn, ..self.limits }, ..self }
     }
 }
 
@@ -131,15 +142,6 @@ pub struct Dropped {
     pub plant_entry: Entry,
 }
 
-/// An entry of a side list: its number there, from 1, its address and its prefix length.
-#[repr(C)]
-#[derive(Clone, Copy, Debug, PartialEq, Eq)]
-pub struct Entry {
-    pub number: usize,
-    pub address: u32,
-    pub prefix: u8,
-}
-
 /// Whether each of four facts is reported: exactly if changing it alone, to some value it may take, would have had the packet forwarded.
 /// At least one is.
 #[derive(Clone, Copy, Debug, PartialEq, Eq)]
@@ -187,35 +189,18 @@ fn reason_of(plain: raw::PlainReason) -> Result<Reason, Refusal> {
     }))
 }
 
-/// One total for each verdict, 0 to 6, that stops at 4,294,967,295.
-#[repr(C)]
-#[derive(Clone, Copy, Debug, Default, PartialEq, Eq)]
-pub struct Tally {
-    pub totals: [u32; 7],
-}
-
 impl Tally {
+    /// The tally before the first answer. Each total stops at 4,294,967,295.
+    pub fn empty() -> Tally {
+        Tally { totals: [0; 7] }
+    }
+
     /// Adds an answer's verdict to its total. A refusal adds nothing.
     pub fn add(&mut self, answer: &Result<Answer, Refusal>) {
         let Ok(answer) = answer else { return };
         let plain = raw::PlainAnswer { refusal: 0, verdict: answer.verdict as u8, count: 0, replaced: 0, address: 0 };
-        // SAFETY: the pointer leads to a tally, lent for writing.
-        unsafe { raw::spritgrommet_tally(self, plain) }
+        raw::tally(self, plain);
     }
-}
-
-/// The address permutation E of a word.
-#[inline]
-pub fn encrypt(keys: &[u32; 8], word: u32) -> u32 {
-    // SAFETY: the pointer leads to eight keys.
-    unsafe { raw::spritgrommet_encrypt(keys.as_ptr(), word) }
-}
-
-/// The inverse of E.
-#[inline]
-pub fn decrypt(keys: &[u32; 8], word: u32) -> u32 {
-    // SAFETY: as for `encrypt`.
-    unsafe { raw::spritgrommet_decrypt(keys.as_ptr(), word) }
 }
 
 /// Whose list has the entry that decides on an address.
@@ -227,8 +212,7 @@ pub enum Side {
 
 /// The entry of two side lists that decides on an address: whose list has it, and its number there, from 1.
 pub fn winner(cell: &[u8], plant: &[u8], address: u32) -> Option<(Side, usize)> {
-    // SAFETY: each pointer leads to as many bytes as the length beside it says.
-    let winner = unsafe { raw::spritgrommet_winner(cell.as_ptr(), cell.len(), plant.as_ptr(), plant.len(), address) };
+    let winner = raw::winner(cell, plant, address);
     match winner.side {
         1 => Some((Side::Cell, winner.number)),
         2 => Some((Side::Plant, winner.number)),
@@ -243,7 +227,9 @@ const MOST_LINES: usize = 262_144;
 /// A gateway that owns its tables.
 #[derive(Clone, Debug, PartialEq, Eq)]
 pub struct Gateway {
-    settings: Settings,
+    limits: Limits,
+    /// As the start answered it.
+    placing: raw::Placing,
     cell: Vec<u8>,
     plant: Vec<u8>,
     records: Vec<u8>,
@@ -255,7 +241,7 @@ pub struct Gateway {
 impl Gateway {
     /// Starts cold at a time, with so many records and lines. Side lists have entries of five bytes: an address, most significant byte
     /// first, then a prefix length. Refused by 1 and 2; a bad list is refused by 3 with each packet.
-    pub fn start(
+    pub fn cold_start(
         settings: Settings,
         cell: &[u8],
         plant: &[u8],
@@ -265,31 +251,12 @@ impl Gateway {
     ) -> Result<Gateway, Refusal> {
         let fits = records <= MOST_RECORDS && lines <= MOST_LINES;
         let (records, entries) = if fits { (records, 4 * lines) } else { (0, 0) };
-        let mut gateway = Gateway {
-            settings,
-            cell: cell.to_vec(),
-            plant: plant.to_vec(),
-            records: vec![0; records],
-            tags: vec![0; entries],
-            counts: vec![0; entries],
-            clock: 0,
-        };
-        let Gateway { records, tags, counts, clock, .. } = &mut gateway;
-        // SAFETY: each pointer leads to as many elements as the length beside it says, and all are lent for writing.
-        let refusal = unsafe {
-            raw::spritgrommet_cold_start(
-                settings,
-                records.as_mut_ptr(),
-                records.len(),
-                tags.as_mut_ptr(),
-                tags.len(),
-                counts.as_mut_ptr(),
-                counts.len(),
-                clock,
-                time,
-            )
-        };
-        unless_refused(refusal).map(|()| gateway)
+        let (cell, plant) = (cell.to_vec(), plant.to_vec());
+        let (mut records, mut tags, mut counts, mut clock) = (vec![0; records], vec![0; entries], vec![0; entries], 0);
+        let started = raw::cold_start(settings, &mut records, &mut tags, &mut counts, &mut clock, time);
+        unless_refused(started.refusal)?;
+        let (limits, placing) = (settings.limits, started.placing);
+        Ok(Gateway { limits, placing, cell, plant, records, tags, counts, clock })
     }
 
     /// The gateway's clock: the time of the start, or of the last time or packet that reached it.
@@ -298,90 +265,35 @@ impl Gateway {
     }
 
     /// Passes a time, with no packet. Refused by 4 where it is before the clock.
-    pub fn time(&mut self, time: u32) -> Result<(), Refusal> {
-        // SAFETY: as in `start`.
-        let refusal = unsafe {
-            raw::spritgrommet_pass(
-                self.settings,
-                self.records.as_mut_ptr(),
-                self.records.len(),
-                self.tags.as_mut_ptr(),
-                self.tags.len(),
-                self.counts.as_mut_ptr(),
-                self.counts.len(),
-                &mut self.clock,
-                time,
-            )
-        };
-        unless_refused(refusal)
+    pub fn pass(&mut self, time: u32) -> Result<(), Refusal> {
+        let Gateway { limits, placing, records, tags, counts, clock, .. } = self;
+        unless_refused(raw::pass(*limits, *placing, records, tags, counts, clock, time))
     }
 
     /// Judges a packet, from its IPv4 header on, that comes at a time. Refused by 3 to 6.
-    pub fn packet(&mut self, time: u32, packet: &[u8]) -> Result<Answer, Refusal> {
-        self.judged(raw::spritgrommet_judge, time, packet)
+    pub fn judge(&mut self, time: u32, packet: &[u8]) -> Result<Answer, Refusal> {
+        let Gateway { limits, placing, cell, plant, records, tags, counts, clock } = self;
+        answer_of(raw::judge(*limits, *placing, cell, plant, records, tags, counts, clock, time, packet))
     }
 
     /// Judges what an Ethernet frame that comes at a time carries. One under 14 bytes is refused by 5, and an EtherType other than 0x0800
     /// gets verdict 0; neither reaches the gateway.
-    pub fn frame(&mut self, time: u32, frame: &[u8]) -> Result<Answer, Refusal> {
-        self.judged(raw::spritgrommet_judge_frame, time, frame)
+    pub fn judge_frame(&mut self, time: u32, frame: &[u8]) -> Result<Answer, Refusal> {
+        let Gateway { limits, placing, cell, plant, records, tags, counts, clock } = self;
+        answer_of(raw::judge_frame(*limits, *placing, cell, plant, records, tags, counts, clock, time, frame))
     }
 
     /// Why a packet, from its IPv4 header on, that comes at a time is dropped, if it is. To be asked before the packet is judged: the
     /// answer is about the tables as they would stand at that second. Refused exactly as the packet would be; nothing is changed.
     pub fn why(&self, time: u32, packet: &[u8]) -> Result<Reason, Refusal> {
-        self.explained(raw::spritgrommet_why, time, packet)
+        let Gateway { limits, placing, cell, plant, records, tags, counts, clock } = self;
+        reason_of(raw::why(*limits, *placing, cell, plant, records, tags, counts, clock, time, packet))
     }
 
     /// Why what an Ethernet frame that comes at a time carries is dropped, if it is: as for a packet, with the refusal or the verdict that
-    /// `frame` would answer.
+    /// `judge_frame` would answer.
     pub fn why_frame(&self, time: u32, frame: &[u8]) -> Result<Reason, Refusal> {
-        self.explained(raw::spritgrommet_why_frame, time, frame)
-    }
-
-    fn judged(&mut self, judge: raw::Judge, time: u32, bytes: &[u8]) -> Result<Answer, Refusal> {
-        // SAFETY: as in `start`; lists and bytes are lent for reading, and overlap nothing that is written.
-        answer_of(unsafe {
-            judge(
-                self.settings,
-                self.cell.as_ptr(),
-                self.cell.len(),
-                self.plant.as_ptr(),
-                self.plant.len(),
-                self.records.as_mut_ptr(),
-                self.records.len(),
-                self.tags.as_mut_ptr(),
-                self.tags.len(),
-                self.counts.as_mut_ptr(),
-                self.counts.len(),
-                &mut self.clock,
-                time,
-                bytes.as_ptr(),
-                bytes.len(),
-            )
-        })
-    }
-
-    fn explained(&self, explain: raw::Explain, time: u32, bytes: &[u8]) -> Result<Reason, Refusal> {
-        // SAFETY: each pointer leads to as many elements as the length beside it says, and nothing is written.
-        reason_of(unsafe {
-            explain(
-                self.settings,
-                self.cell.as_ptr(),
-                self.cell.len(),
-                self.plant.as_ptr(),
-                self.plant.len(),
-                self.records.as_ptr(),
-                self.records.len(),
-                self.tags.as_ptr(),
-                self.tags.len(),
-                self.counts.as_ptr(),
-                self.counts.len(),
-                &self.clock,
-                time,
-                bytes.as_ptr(),
-                bytes.len(),
-            )
-        })
+        let Gateway { limits, placing, cell, plant, records, tags, counts, clock } = self;
+        reason_of(raw::why_frame(*limits, *placing, cell, plant, records, tags, counts, clock, time, frame))
     }
 }

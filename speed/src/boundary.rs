@@ -1,10 +1,11 @@
 //! Table 3: a minute boundary over all records.
 
-use crate::ours::{self, Settings, TIMED};
+use crate::ours::{self, Caller};
 use crate::plain;
 use crate::stopwatch::{commas, head, in_turn_by, ratio, row, timed};
 use crate::trace::Random;
 use std::hint::black_box;
+use std::sync::LazyLock;
 
 pub const LARGEST: usize = 1_048_576;
 /// Records, and how many percent of them are marked.
@@ -17,7 +18,9 @@ const MINUTES: u32 = 16;
 /// The bytes that memory takes at a time, and the records that a plain loop stores to or leaves alone together.
 const LINE: usize = 64;
 const PART: usize = 128;
-const SETTINGS: Settings = Settings { dmiss: 3_600, dconn: 62, ..TIMED };
+/// Whose limits and placing are lent. Made once, so that no boundary pays for it.
+static CALLER: LazyLock<Caller> =
+    LazyLock::new(|| Caller::new(ours::settings().with_dmiss(3_600).with_dconn(62), &[], &[], 16, 1));
 const NOTES: &str = "\
     Each table passes 16 boundaries in a round, one to a call. Before the round, outside of the timed part, so many of its \
     records are marked at random with ages 0 to 62, the rest are 0; so the tables are warm. Of the marked ones a quarter \
@@ -43,21 +46,22 @@ pub fn marked(records: usize, percent: u32) -> Vec<u8> {
 /// One minute boundary over lent tables by the proved gateway.
 fn pass_ours(records: &mut [u8]) {
     let (mut tags, mut counts, mut clock) = ([0; 4], [i16::MIN; 4], 0);
-    black_box(ours::pass(black_box(&SETTINGS), records, &mut tags, &mut counts, &mut clock, 60));
+    let (limits, placing) = black_box((CALLER.settings.limits, CALLER.placing));
+    black_box(ours::pass(limits, placing, records, &mut tags, &mut counts, &mut clock, 60));
 }
 
 /// The same by the plain program, called as ours is.
 #[inline(never)]
 fn pass_plain(records: &mut [u8]) {
     let (mut counts, mut clock) = ([[i16::MIN; 4]], black_box(0));
-    plain::pass(black_box(&SETTINGS), records, &mut counts, &mut clock, black_box(60));
+    plain::pass(black_box(&CALLER.settings.limits), records, &mut counts, &mut clock, black_box(60));
     black_box(clock);
 }
 
 /// And by a plain loop that leaves a part alone in which all are 0.
 #[inline(never)]
 fn pass_by_parts(records: &mut [u8]) {
-    let (minutes, dconn) = black_box((1, SETTINGS.dconn));
+    let (minutes, dconn) = black_box((1, CALLER.settings.limits.dconn));
     let (parts, rest) = records.as_chunks_mut::<PART>();
     for part in parts.iter_mut().filter(|part| part.iter().fold(0, |all, record| all | record) != 0) {
         plain::sweep(part, minutes, dconn);

@@ -3,7 +3,7 @@
 use crate::boundary::{sweep_some, LARGEST, PROGRAMS};
 use crate::cipher;
 use crate::judging::{self, judge_some};
-use crate::ours::{self, TIMED};
+use crate::ours::{self, KEYS};
 use crate::stopwatch::{commas, head, row};
 use crate::stores;
 use crate::trace::KINDS;
@@ -24,7 +24,7 @@ const BOUNDARY_NOTES: &str = "\
 /// Inlined, so that each program is called directly.
 #[inline(always)]
 fn encrypt_often(times: usize, e: impl Fn(&[u32; 8], u32) -> u32) {
-    let keys = &black_box(TIMED.keys);
+    let keys = &black_box(KEYS);
     black_box((0..times).fold(1, |word, _| e(keys, word)));
 }
 

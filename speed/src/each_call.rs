@@ -2,8 +2,8 @@
 //! each call, as ours does, and looks addresses up in the bytes of the lists.
 
 use crate::judging::{Judge, Left, Told};
-use crate::ours::{Caller, Settings};
-use crate::plain::{self, entries_of, four, pass, read, settings_fit, sizes_fit, Answer, Side, Tables, NOT_OURS};
+use crate::ours::{Caller, Limits};
+use crate::plain::{self, entries_of, four, limits_fit, pass, read, sizes_fit, Answer, Side, Tables, NOT_OURS};
 
 /// The longest prefix that holds the address, plus one; 0 where none does.
 fn rank(list: &[[u8; 5]], address: u32) -> u8 {
@@ -16,10 +16,10 @@ fn rank(list: &[[u8; 5]], address: u32) -> u8 {
 #[rustfmt::skip]
 #[allow(clippy::too_many_arguments)]
 fn judge(
-    settings: &Settings, cell: &[u8], plant: &[u8], records: &mut [u8], tags: &mut [u32], counts: &mut [i16],
+    limits: &Limits, keys: &[u32; 8], cell: &[u8], plant: &[u8], records: &mut [u8], tags: &mut [u32], counts: &mut [i16],
     clock: &mut u32, time: u32, packet: &[u8],
 ) -> Result<Answer, u8> {
-    if !settings_fit(settings) {
+    if !limits_fit(limits) {
         return Err(1);
     }
     if !tags.len().is_multiple_of(4) || tags.len() != counts.len() || !sizes_fit(records.len(), tags.len() / 4) {
@@ -32,9 +32,9 @@ fn judge(
     };
     let (tags, counts) = (tags.as_chunks_mut().0, counts.as_chunks_mut().0);
     let header = read(*clock, time, packet)?;
-    pass(settings, records, counts, clock, time);
+    pass(limits, records, counts, clock, time);
     let Some(ours) = header.ours(side_of) else { return Ok(NOT_OURS) };
-    Ok(Tables { settings, records, tags, counts }.judge(ours))
+    Ok(Tables { limits, keys, records, tags, counts }.judge(ours))
 }
 
 /// What the caller lends.
@@ -49,8 +49,8 @@ impl Judge for EachCall {
 
     #[inline]
     fn judge(&mut self, time: u32, packet: &[u8]) -> Result<Answer, u8> {
-        let Caller { settings, cell, plant, records, tags, counts, clock } = &mut self.0;
-        judge(settings, cell, plant, records, tags, counts, clock, time, packet)
+        let Caller { settings, placing, cell, plant, records, tags, counts, clock } = &mut self.0;
+        judge(&settings.limits, &placing.keys, cell, plant, records, tags, counts, clock, time, packet)
     }
 
     fn told(answer: Result<Answer, u8>) -> Told {

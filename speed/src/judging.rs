@@ -2,7 +2,7 @@
 //! cost.
 
 use crate::each_call::EachCall;
-use crate::ours::{Caller, TIMED};
+use crate::ours::{self, Caller};
 use crate::plain;
 use crate::stopwatch::{commas, head, in_turn, ratio, row, timed, Figures};
 use crate::trace::{Mix, Trace, KINDS, MIXED, START};
@@ -62,7 +62,7 @@ impl Programs {
         let cell = side_list(entries, [172, 16], [10, 0, 0, 0, 8]);
         let plant = side_list(entries, [198, 18], [192, 168, 0, 0, 16]);
         // Else a test of what the compiler knows would cost nothing.
-        let (settings, (records, lines)) = black_box((TIMED, sizes));
+        let (settings, (records, lines)) = black_box((ours::settings(), sizes));
         let [ours, each_call] = [(); 2].map(|_| Caller::new(settings, &cell, &plant, records, lines));
         let plain = plain::Gateway::new(settings, &cell, &plant, records, lines);
         let Ok(plain) = plain else { panic!("the plain gateway was refused") };
@@ -101,14 +101,14 @@ fn require_same(trace: &Trace, told: &[Told], ours: &Caller, other: &mut impl Ju
 /// Stops unless the plain program that tests each call refuses what ours does.
 fn compare_refusals() {
     let spoils: [fn(&mut Caller); 18] = [
-        |lent| lent.settings.threshold = 0,
-        |lent| lent.settings.threshold = 256,
-        |lent| lent.settings.floor = -1001,
-        |lent| lent.settings.floor = 1,
-        |lent| lent.settings.dmiss = 0,
-        |lent| lent.settings.dmiss = 3601,
-        |lent| lent.settings.dconn = 0,
-        |lent| lent.settings.dconn = 63,
+        |lent| lent.settings.limits.threshold = 0,
+        |lent| lent.settings.limits.threshold = 256,
+        |lent| lent.settings.limits.floor = -1001,
+        |lent| lent.settings.limits.floor = 1,
+        |lent| lent.settings.limits.dmiss = 0,
+        |lent| lent.settings.limits.dmiss = 3601,
+        |lent| lent.settings.limits.dconn = 0,
+        |lent| lent.settings.limits.dconn = 63,
         |lent| lent.records.truncate(8),
         |lent| lent.records.truncate(48),
         |lent| lent.records.resize(1 << 21, 0),

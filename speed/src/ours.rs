@@ -1,37 +1,24 @@
 //! The proved gateway's calls that are timed, and memory to lend them. include/spritgrommet.h says what they do.
 
 use crate::judging::{Judge, Left, Told};
-use spritgrommet::raw::{self, PlainAnswer};
+use spritgrommet::raw::{self, Placing, PlainAnswer};
 
-pub use spritgrommet::Settings;
+pub use spritgrommet::raw::pass;
+pub use spritgrommet::{encrypt, Limits, Settings};
 
-/// The settings of bin/verdicts, T 10 among them, but with keys: with none, some additions would cost nothing.
-pub const TIMED: Settings = Settings {
-    threshold: 10,
-    floor: -20,
-    dmiss: 60,
-    dconn: 10,
-    keys: [0x243f_6a88, 0x85a3_08d3, 0x1319_8a2e, 0x0370_7344, 0xa409_3822, 0x299f_31d0, 0x082e_fa98, 0xec4e_6c89],
-};
+/// With none, some additions would cost nothing.
+pub const KEYS: [u32; 8] =
+    [0x243f_6a88, 0x85a3_08d3, 0x1319_8a2e, 0x0370_7344, 0xa409_3822, 0x299f_31d0, 0x082e_fa98, 0xec4e_6c89];
 
-pub use spritgrommet::encrypt;
-
-/// Passes a time over lent tables. The answer is the number of a refusal, or 0.
-#[rustfmt::skip]
-#[inline]
-pub fn pass(set: &Settings, records: &mut [u8], tags: &mut [u32], counts: &mut [i16], clock: &mut u32, time: u32) -> u8 {
-    // SAFETY: each length is its slice's, and nothing is lent twice.
-    unsafe {
-        raw::spritgrommet_pass(
-            *set, records.as_mut_ptr(), records.len(), tags.as_mut_ptr(), tags.len(),
-            counts.as_mut_ptr(), counts.len(), clock, time,
-        )
-    }
+/// The settings of bin/verdicts, T 10 among them, but with keys.
+pub fn settings() -> Settings {
+    Settings::factory().with_threshold(10).with_keys(KEYS)
 }
 
 /// The caller's side: all that is lent at each call.
 pub struct Caller {
     pub settings: Settings,
+    pub placing: Placing,
     pub cell: Vec<u8>,
     pub plant: Vec<u8>,
     pub records: Vec<u8>,
@@ -41,40 +28,30 @@ pub struct Caller {
 }
 
 impl Caller {
-    /// It is to be started cold before its first packet.
+    /// Started cold at time 0.
     pub fn new(settings: Settings, cell: &[u8], plant: &[u8], records: usize, lines: usize) -> Caller {
-        let (records, tags, counts) = (vec![0; records], vec![0; 4 * lines], vec![0; 4 * lines]);
-        Caller { settings, cell: cell.to_vec(), plant: plant.to_vec(), records, tags, counts, clock: 0 }
+        let (cell, plant, mut clock) = (cell.to_vec(), plant.to_vec(), 0);
+        let (mut records, mut tags, mut counts) = (vec![0; records], vec![0; 4 * lines], vec![0; 4 * lines]);
+        let started = raw::cold_start(settings, &mut records, &mut tags, &mut counts, &mut clock, 0);
+        assert_eq!(started.refusal, 0, "the cold start was refused");
+        Caller { settings, placing: started.placing, cell, plant, records, tags, counts, clock }
     }
 }
 
-#[rustfmt::skip]
 impl Judge for Caller {
     type Answer = PlainAnswer;
 
     fn cold_start(&mut self, time: u32) {
         let Caller { settings, records, tags, counts, clock, .. } = self;
-        // SAFETY: each length is its slice's, and nothing is lent twice.
-        let refusal = unsafe {
-            raw::spritgrommet_cold_start(
-                *settings, records.as_mut_ptr(), records.len(), tags.as_mut_ptr(), tags.len(),
-                counts.as_mut_ptr(), counts.len(), clock, time,
-            )
-        };
-        assert_eq!(refusal, 0, "the cold start was refused");
+        let started = raw::cold_start(*settings, records, tags, counts, clock, time);
+        assert_eq!(started.refusal, 0, "the cold start was refused");
+        self.placing = started.placing;
     }
 
     #[inline]
     fn judge(&mut self, time: u32, packet: &[u8]) -> PlainAnswer {
-        let Caller { settings, cell, plant, records, tags, counts, clock } = self;
-        // SAFETY: each length is its slice's, and nothing is lent twice.
-        unsafe {
-            raw::spritgrommet_judge(
-                *settings, cell.as_ptr(), cell.len(), plant.as_ptr(), plant.len(),
-                records.as_mut_ptr(), records.len(), tags.as_mut_ptr(), tags.len(),
-                counts.as_mut_ptr(), counts.len(), clock, time, packet.as_ptr(), packet.len(),
-            )
-        }
+        let Caller { settings, placing, cell, plant, records, tags, counts, clock } = self;
+        raw::judge(settings.limits, *placing, cell, plant, records, tags, counts, clock, time, packet)
     }
 
     fn told(answer: PlainAnswer) -> Told {

@@ -40,7 +40,7 @@ fn put_rows(way: &str, figures: &[Figures]) {
 }
 
 pub fn put_table() {
-    let keys = &black_box(ours::TIMED.keys);
+    let keys = &black_box(ours::KEYS);
     let mut random = Random(1);
     let words: Vec<u32> = (0..WORDS).map(|_| random.word()).collect();
     for &word in &words {

@@ -3,7 +3,7 @@
 
 use crate::cipher::{decrypt, encrypt};
 use crate::judging::{Judge, Left, Told};
-use crate::ours::Settings;
+use crate::ours::{Limits, Settings};
 use std::cmp::Reverse;
 
 const EMPTY: i16 = i16::MIN;
@@ -46,11 +46,11 @@ pub struct Answer {
 
 pub const NOT_OURS: Answer = Answer { verdict: Verdict::NotOurs, count: 0, replaced: None };
 
-pub fn settings_fit(settings: &Settings) -> bool {
-    (1..=255).contains(&settings.threshold)
-        && (-1000..=0).contains(&settings.floor)
-        && (1..=3600).contains(&settings.dmiss)
-        && (1..=62).contains(&settings.dconn)
+pub fn limits_fit(limits: &Limits) -> bool {
+    (1..=255).contains(&limits.threshold)
+        && (-1000..=0).contains(&limits.floor)
+        && (1..=3600).contains(&limits.dmiss)
+        && (1..=62).contains(&limits.dconn)
 }
 
 pub fn sizes_fit(records: usize, lines: usize) -> bool {
@@ -178,14 +178,14 @@ fn decay(counts: &mut [[i16; 4]], points: u32) {
 
 /// Passes a time that is not before the clock.
 #[inline]
-pub fn pass(set: &Settings, records: &mut [u8], counts: &mut [[i16; 4]], clock: &mut u32, time: u32) {
+pub fn pass(limits: &Limits, records: &mut [u8], counts: &mut [[i16; 4]], clock: &mut u32, time: u32) {
     if time == *clock {
         return;
     }
-    let dmiss = u32::from(set.dmiss);
+    let dmiss = u32::from(limits.dmiss);
     let (minutes, points) = (time / 60 - *clock / 60, time / dmiss - *clock / dmiss);
     if minutes > 0 {
-        sweep(records, minutes, set.dconn);
+        sweep(records, minutes, limits.dconn);
     }
     if points > 0 {
         decay(counts, points);
@@ -195,7 +195,8 @@ pub fn pass(set: &Settings, records: &mut [u8], counts: &mut [[i16; 4]], clock: 
 
 /// What a packet of ours is judged by, all of it tested before.
 pub struct Tables<'a> {
-    pub settings: &'a Settings,
+    pub limits: &'a Limits,
+    pub keys: &'a [u32; 8],
     pub records: &'a mut [u8],
     pub tags: &'a mut [[u32; 4]],
     pub counts: &'a mut [[i16; 4]],
@@ -204,7 +205,7 @@ pub struct Tables<'a> {
 impl Tables<'_> {
     #[inline(always)]
     pub fn judge(self, Ours { from, cell, plant, port, kind }: Ours) -> Answer {
-        let keys = &self.settings.keys;
+        let (limits, keys) = (self.limits, self.keys);
         let word = encrypt(keys, encrypt(keys, encrypt(keys, plant) ^ cell) ^ u32::from(port));
         let record = &mut self.records[word as usize & (self.records.len() - 1)];
         let (placed, line_bits) = (encrypt(keys, cell), self.tags.len().trailing_zeros());
@@ -213,12 +214,12 @@ impl Tables<'_> {
         let way = (0..4).find(|&way| tags[way] == tag && counts[way] != EMPTY);
         let count = way.map_or(0, |way| counts[way]);
 
-        let is_blocked = i32::from(count) >= i32::from(self.settings.threshold);
+        let is_blocked = i32::from(count) >= i32::from(limits.threshold);
         let verdict = verdict_of(from, is_blocked, *record, kind);
         *record = record_after(from, verdict, kind, *record);
         let count = match verdict {
-            Verdict::CreditOfOne => (count - 1).max(self.settings.floor),
-            Verdict::CreditOfTwo => (count - 2).max(self.settings.floor),
+            Verdict::CreditOfOne => (count - 1).max(limits.floor),
+            Verdict::CreditOfTwo => (count - 2).max(limits.floor),
             Verdict::FreshContact => count + 1,
             _ => return Answer { verdict, count, replaced: None },
         };
@@ -286,7 +287,7 @@ pub struct Gateway {
 impl Gateway {
     /// Or the refusal. It is to be started cold before its first packet.
     pub fn new(settings: Settings, cell: &[u8], plant: &[u8], records: usize, lines: usize) -> Result<Gateway, u8> {
-        if !settings_fit(&settings) {
+        if !limits_fit(&settings.limits) {
             return Err(1);
         }
         if !sizes_fit(records, lines) {
@@ -312,11 +313,11 @@ impl Judge for Gateway {
     #[inline(never)]
     fn judge(&mut self, time: u32, packet: &[u8]) -> Result<Answer, u8> {
         let header = read(self.clock, time, packet)?;
-        pass(&self.settings, &mut self.records, &mut self.counts, &mut self.clock, time);
+        pass(&self.settings.limits, &mut self.records, &mut self.counts, &mut self.clock, time);
         let side_of = |address| self.nets.iter().find(|net| address & net.mask == net.net).map(|net| net.side);
         let Some(ours) = header.ours(side_of) else { return Ok(NOT_OURS) };
-        let Gateway { settings, records, tags, counts, .. } = self;
-        Ok(Tables { settings, records, tags, counts }.judge(ours))
+        let Gateway { settings: Settings { keys, limits }, records, tags, counts, .. } = self;
+        Ok(Tables { limits, keys, records, tags, counts }.judge(ours))
     }
 
     fn told(answer: Result<Answer, u8>) -> Told {

@@ -3,7 +3,6 @@
 use crate::lines;
 use crate::names::*;
 use crate::trials;
-use settings::Settings;
 
 fn judge(input: usize, value: u32) {
     trials::line(JUDGE, input, value, NONE, 0, NONE, 0);
@@ -19,10 +18,10 @@ fn judge_floor(value: i16) {
     print_name(CMIN);
     lines::signed(value);
     lines::mark(b' ');
-    let mut set = Settings::factory();
-    set.floor = value;
     let mut trial = trials::good();
-    trial.set = set;
+    let mut limits = trial.limits;
+    limits.floor = value;
+    trial.limits = limits;
     trials::finish_line(JUDGE, trial);
 }
 

@@ -4,6 +4,7 @@
 use crate::flags;
 use crate::lines;
 use crate::packets;
+use places::Placing;
 use rulings::answers::Answer;
 use settings::Settings;
 use tally::Tally;
@@ -55,6 +56,7 @@ fn time_of(turn: u8) -> u32 {
 }
 
 fn judge(
+    placing: Placing,
     turn: u8,
     records: &mut [u8],
     tags: &mut [u32],
@@ -62,8 +64,10 @@ fn judge(
     clock: &mut u32,
 ) -> Answer {
     let packet = packet_of(turn);
+    let set = Settings::factory();
     gateway::judge(
-        Settings::factory(),
+        set.limits,
+        placing,
         &CELL_LIST,
         &PLANT_LIST,
         records,
@@ -84,6 +88,7 @@ fn print_turn(turn: u8, answer: Answer) {
 
 // The turns from one on, up to another that is not among them.
 fn judge_turns(
+    placing: Placing,
     from: u8,
     to: u8,
     records: &mut [u8],
@@ -94,7 +99,7 @@ fn judge_turns(
     let mut tally = Tally::empty();
     let mut turn = from;
     while turn < to {
-        let answer = judge(turn, records, tags, counts, clock);
+        let answer = judge(placing, turn, records, tags, counts, clock);
         print_turn(turn, answer);
         tally = tally.with(answer);
         turn += 1;
@@ -125,7 +130,7 @@ fn run_turns(from: u8, to: u8) {
     let mut tags = [7u32; 1024];
     let mut counts = [9i16; 1024];
     let mut clock = 4000000000;
-    gateway::cold_start(
+    let started = gateway::cold_start(
         Settings::factory(),
         &mut records,
         &mut tags,
@@ -133,7 +138,16 @@ fn run_turns(from: u8, to: u8) {
         &mut clock,
         100,
     );
-    let tally = judge_turns(from, to, &mut records, &mut tags, &mut counts, &mut clock);
+    let placing = started.placing;
+    let tally = judge_turns(
+        placing,
+        from,
+        to,
+        &mut records,
+        &mut tags,
+        &mut counts,
+        &mut clock,
+    );
     let totals = tally.totals;
     print_totals(totals);
 }

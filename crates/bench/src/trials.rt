@@ -3,13 +3,18 @@
 use crate::lines;
 use crate::names::*;
 use crate::packets;
+use gateway::Reply;
+use places::Placing;
+use settings::Limits;
 use settings::Settings;
 
 const CLOCK: u32 = 100;
 
+const KEYS: [u32; 8] = [0; 8];
+
 // Of tables, side lists and packet a trial has the length that is lent; of each list the prefix length of its first entry too.
 pub struct Trial {
-    pub set: Settings,
+    pub limits: Limits,
     pub records: usize,
     pub tags: usize,
     pub counts: usize,
@@ -27,8 +32,10 @@ pub struct Trial {
 
 // A trial that no number refuses. Its packet is a SYN from 10.0.0.1 to 192.168.0.1.
 pub fn good() -> Trial {
+    let set = Settings::factory();
+    let limits = set.limits;
     Trial {
-        set: Settings::factory(),
+        limits,
         records: 16,
         tags: 4,
         counts: 4,
@@ -52,9 +59,9 @@ fn changed(trial: Trial, input: usize, value: u32) -> Trial {
     let word = (value % 65536) as u16;
     let length = value as usize;
     match input {
-        T => next.set.threshold = word,
-        DMISS => next.set.dmiss = word,
-        DCONN => next.set.dconn = byte,
+        T => next.limits.threshold = word,
+        DMISS => next.limits.dmiss = word,
+        DCONN => next.limits.dconn = byte,
         RECORDS => next.records = length,
         TAGS => next.tags = length,
         COUNTS => next.counts = length,
@@ -115,6 +122,20 @@ fn print_kept(kept: bool) {
     }
 }
 
+// Starts cold with these limits.
+fn start(
+    limits: Limits,
+    records: &mut [u8],
+    tags: &mut [u32],
+    counts: &mut [i16],
+    clock: &mut u32,
+    time: u32,
+) -> Reply {
+    let set = Settings { keys: KEYS, limits };
+    let started = gateway::cold_start(set, records, tags, counts, clock, time);
+    started.reply
+}
+
 // Makes the call. What it is lent of each table is cut to what there is by a remainder; no trial asks for more.
 fn finish_with(call: usize, trial: Trial, cell: &[u8], plant: &[u8], packet: &[u8]) {
     let mut records = [9u8; 32];
@@ -124,14 +145,16 @@ fn finish_with(call: usize, trial: Trial, cell: &[u8], plant: &[u8], packet: &[u
     let records_end = trial.records % 33;
     let tags_end = trial.tags % 33;
     let counts_end = trial.counts % 33;
-    let set = trial.set;
+    let limits = trial.limits;
+    let placing = Placing { keys: KEYS };
     let time = trial.time;
     let lent = &mut records[0..records_end];
     let lent_tags = &mut tags[0..tags_end];
     let lent_counts = &mut counts[0..counts_end];
     match call {
         JUDGE => lines::answer(gateway::judge(
-            set,
+            limits,
+            placing,
             cell,
             plant,
             lent,
@@ -141,8 +164,16 @@ fn finish_with(call: usize, trial: Trial, cell: &[u8], plant: &[u8], packet: &[u
             time,
             packet,
         )),
-        PASS => lines::reply(gateway::pass(set, lent, lent_tags, lent_counts, &mut clock, time)),
-        _ => lines::reply(gateway::cold_start(set, lent, lent_tags, lent_counts, &mut clock, time)),
+        PASS => lines::reply(gateway::pass(
+            limits,
+            placing,
+            lent,
+            lent_tags,
+            lent_counts,
+            &mut clock,
+            time,
+        )),
+        _ => lines::reply(start(limits, lent, lent_tags, lent_counts, &mut clock, time)),
     }
     print_kept(is_kept(records, tags, counts, clock));
 }

@@ -145,7 +145,7 @@ abbrev One {ℓ m} : {X : Type ℓ} {S : Type m} {O : Type 0} → (X → S → T
 One {X = X} {S = S} allowed outcome = (x y : X) (s t : S) → allowed x s → allowed y t → outcome x s ≡ outcome y t
 
 -- what is lent, where only its exit is looked at
-abbrev both : {A : Type 1} → A → Both A A
+abbrev both : {A : Type 0} → A → Both A A
 both x = record { entry = x; exit = x }
 
 -- the one lemma: a contract is an equation of its outcome with a definition's value at the entry

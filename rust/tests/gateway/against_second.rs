@@ -5,7 +5,7 @@ use crate::random::Random;
 use second::gateway::{Gateway as Second, Settings as SecondSettings};
 use second::samples;
 use second::sides::Sides;
-use spritgrommet::{Answer, Gateway, Refusal, Settings, Tally};
+use spritgrommet::{Answer, Gateway, Limits, Refusal, Settings, Tally};
 
 type Entry = (u32, u32);
 
@@ -26,23 +26,17 @@ pub fn list(random: &mut Random) -> &'static [Entry] {
 }
 
 fn settings(random: &mut Random) -> Settings {
-    Settings {
-        threshold: random.pick(&[1, 2, 3, 5, 10, 255]),
-        floor: random.pick(&[0, -1, -2, -20, -1_000]),
-        dmiss: random.pick(&[1, 7, 60, 61, 3_600]),
-        dconn: random.pick(&[1, 2, 10, 61, 62]),
-        keys: std::array::from_fn(|_| random.word()),
-    }
+    Settings::factory()
+        .with_threshold(random.pick(&[1, 2, 3, 5, 10, 255]))
+        .with_floor(random.pick(&[0, -1, -2, -20, -1_000]))
+        .with_dmiss(random.pick(&[1, 7, 60, 61, 3_600]))
+        .with_dconn(random.pick(&[1, 2, 10, 61, 62]))
+        .with_keys(std::array::from_fn(|_| random.word()))
 }
 
 fn second_settings(settings: &Settings) -> SecondSettings {
-    SecondSettings {
-        threshold: settings.threshold.into(),
-        floor: settings.floor.into(),
-        dmiss: settings.dmiss.into(),
-        dconn: settings.dconn.into(),
-        keys: settings.keys,
-    }
+    let Settings { keys, limits: Limits { threshold, floor, dmiss, dconn } } = *settings;
+    SecondSettings { threshold: threshold.into(), floor: floor.into(), dmiss: dmiss.into(), dconn: dconn.into(), keys }
 }
 
 /// One gateway of each, with the same settings, side lists, sizes and start.
@@ -51,8 +45,8 @@ pub fn both(random: &mut Random) -> (Gateway, Second) {
     let (cell, plant) = (list(random), list(random));
     let (records, lines) = (16 << random.below(8), 1 << random.below(5));
     let start = random.below(100_000);
-    let gateway =
-        Gateway::start(settings, &bytes_of(cell), &bytes_of(plant), records, lines, start).expect("good settings and sizes");
+    let gateway = Gateway::cold_start(settings, &bytes_of(cell), &bytes_of(plant), records, lines, start);
+    let gateway = gateway.expect("good settings and sizes");
     let second = Second::cold_start(second_settings(&settings), Sides { cell, plant }, records, lines, start);
     (gateway, second)
 }
@@ -100,17 +94,17 @@ fn told(answer: Result<Answer, Refusal>) -> (u8, u8, Option<i64>, Option<u32>) {
 fn run(seed: u64, calls: u32) -> [u32; 7] {
     let random = &mut Random(seed);
     let (mut gateway, mut second) = both(random);
-    let mut tally = Tally::default();
+    let mut tally = Tally::empty();
     let mut by_hand = [0; 7];
     for call in 0..calls {
         let time = later(random, gateway.clock());
         if random.below(20) == 0 {
             let refusal = second.time(time).map_err(|refusal| Refusal(refusal.number()));
-            assert_eq!(gateway.time(time), refusal, "seed {seed}, call {call}");
+            assert_eq!(gateway.pass(time), refusal, "seed {seed}, call {call}");
             continue;
         }
         let packet = packet(random);
-        let answer = gateway.packet(time, &packet);
+        let answer = gateway.judge(time, &packet);
         tally.add(&answer);
         if let Ok(answer) = answer {
             by_hand[answer.verdict as usize] += 1;

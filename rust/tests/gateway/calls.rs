@@ -2,31 +2,46 @@
 
 use crate::random::Random;
 use second::samples;
-use spritgrommet::raw::{self, PlainAnswer};
+use spritgrommet::raw::{self, Placing, PlainAnswer};
 use spritgrommet::{decrypt, encrypt, winner};
-use spritgrommet::{Answer, Capture, CaptureWriter, Gateway, Record, Refusal, Settings, Side, Tally, Verdict};
+use spritgrommet::{Answer, Capture, CaptureWriter, Gateway, Limits, Record, Refusal, Settings, Side, Tally, Verdict};
 
 pub const CELL: [u8; 5] = [10, 0, 0, 0, 8];
 pub const PLANT: [u8; 5] = [192, 168, 0, 0, 16];
 
 pub fn start(settings: Settings, records: usize, lines: usize) -> Result<Gateway, Refusal> {
-    Gateway::start(settings, &CELL, &PLANT, records, lines, 100)
+    Gateway::cold_start(settings, &CELL, &PLANT, records, lines, 100)
+}
+
+/// What a start with these settings, which are good, answers for later calls to take.
+pub fn placing(settings: Settings) -> Placing {
+    let started = raw::cold_start(settings, &mut [0; 16], &mut [0; 4], &mut [0; 4], &mut 0, 0);
+    assert_eq!(started.refusal, 0);
+    started.placing
 }
 
 #[test]
 fn factory_settings() {
-    let factory = Settings { threshold: 5, floor: -20, dmiss: 60, dconn: 10, keys: [0; 8] };
+    let limits = Limits { threshold: 5, floor: -20, dmiss: 60, dconn: 10 };
+    let factory = Settings { keys: [0; 8], limits };
     assert_eq!(Settings::factory(), factory);
+}
+
+/// The keys that are set are those on which a gateway runs.
+#[test]
+fn keys_of_a_start() {
+    let keys = [1, 2, 3, 4, 5, 6, 7, u32::MAX];
+    assert_eq!(placing(Settings::factory().with_keys(keys)), Placing { keys });
 }
 
 #[test]
 fn refusals_of_a_start() {
     let factory = Settings::factory();
-    assert_eq!(start(Settings { threshold: 0, ..factory }, 16, 1), Err(Refusal(1)));
-    assert_eq!(start(Settings { threshold: 256, ..factory }, 17, 1), Err(Refusal(1)));
-    assert_eq!(start(Settings { floor: 1, ..factory }, 16, 1), Err(Refusal(1)));
-    assert_eq!(start(Settings { dmiss: 3_601, ..factory }, 16, 1), Err(Refusal(1)));
-    assert_eq!(start(Settings { dconn: 63, ..factory }, 16, 1), Err(Refusal(1)));
+    assert_eq!(start(factory.with_threshold(0), 16, 1), Err(Refusal(1)));
+    assert_eq!(start(factory.with_threshold(256), 17, 1), Err(Refusal(1)));
+    assert_eq!(start(factory.with_floor(1), 16, 1), Err(Refusal(1)));
+    assert_eq!(start(factory.with_dmiss(3_601), 16, 1), Err(Refusal(1)));
+    assert_eq!(start(factory.with_dconn(63), 16, 1), Err(Refusal(1)));
     for (records, lines) in [(0, 1), (8, 1), (17, 1), (2_097_152, 1), (16, 0), (16, 3), (16, 524_288), (usize::MAX, usize::MAX)]
     {
         assert_eq!(start(factory, records, lines), Err(Refusal(2)), "{records} records, {lines} lines");
@@ -39,18 +54,19 @@ fn refusals_of_a_start() {
 fn a_refused_call_changes_nothing() {
     let mut gateway = start(Settings::factory(), 16, 1).expect("good settings and sizes");
     let syn = samples::tcp((0x0A00_0001, 40_000), (0xC0A8_0001, 80), 2);
-    assert!(gateway.packet(100, &syn).is_ok());
+    assert!(gateway.judge(100, &syn).is_ok());
     let before = gateway.clone();
-    assert_eq!(gateway.time(99), Err(Refusal(4)));
-    assert_eq!(gateway.packet(99, &syn), Err(Refusal(4)));
-    assert_eq!(gateway.packet(200, &syn[..39]), Err(Refusal(5)));
+    assert_eq!(gateway.pass(99), Err(Refusal(4)));
+    assert_eq!(gateway.judge(99, &syn), Err(Refusal(4)));
+    assert_eq!(gateway.judge(200, &syn[..39]), Err(Refusal(5)));
     let mut version_6 = syn.clone();
     version_6[0] = 0x65;
-    assert_eq!(gateway.packet(200, &version_6), Err(Refusal(6)));
-    assert_eq!(gateway.frame(200, &[0; 13]), Err(Refusal(5)));
+    assert_eq!(gateway.judge(200, &version_6), Err(Refusal(6)));
+    assert_eq!(gateway.judge_frame(200, &[0; 13]), Err(Refusal(5)));
     assert_eq!(gateway, before);
-    let mut bad_list = Gateway::start(Settings::factory(), &CELL, &PLANT[..4], 16, 1, 100).expect("lists are not looked at");
-    assert_eq!(bad_list.packet(99, &syn), Err(Refusal(3)));
+    let mut bad_list =
+        Gateway::cold_start(Settings::factory(), &CELL, &PLANT[..4], 16, 1, 100).expect("lists are not looked at");
+    assert_eq!(bad_list.judge(99, &syn), Err(Refusal(3)));
 }
 
 /// Document 01's session, as frames; its four lines are 4 1, 3 -1, 1 -1 and 0.
@@ -72,7 +88,7 @@ fn the_session() {
         answer(Verdict::NotOurs, None),
     ];
     for (packet, expected) in packets.iter().zip(expected) {
-        assert_eq!(gateway.frame(100, &samples::ethernet(packet)), expected);
+        assert_eq!(gateway.judge_frame(100, &samples::ethernet(packet)), expected);
     }
 }
 
@@ -128,8 +144,7 @@ fn one_total_each() {
         if let (0, Some(total)) = (refusal, by_hand.totals.get_mut(usize::from(verdict))) {
             *total += 1;
         }
-        // SAFETY: the pointer leads to a tally, lent for writing.
-        unsafe { raw::spritgrommet_tally(&mut tally, PlainAnswer { refusal, verdict, count: 1, replaced: 1, address: 1 }) };
+        raw::tally(&mut tally, PlainAnswer { refusal, verdict, count: 1, replaced: 1, address: 1 });
         assert_eq!(tally, by_hand, "refusal {refusal}, verdict {verdict}");
     }
 }
@@ -159,12 +174,12 @@ fn written_captures() {
     let frames = [vec![], vec![7; 60], (0..2048).map(|at| at as u8).collect::<Vec<u8>>()];
     let mut room = [0xEE; 24 + 3 * 16 + 60 + 2048 + 15];
     let mut expected = second::capture::HEADER.to_vec();
-    let mut writer = CaptureWriter::start(&mut room).expect("room for the header");
+    let mut writer = CaptureWriter::put_header(&mut room).expect("room for the header");
     for (number, frame) in (1..).zip(&frames) {
         let (seconds, microseconds, original) = (u32::MAX - number, number << 24, number << 8);
         let too_long = Record { seconds, microseconds, original, frame: &[0; 2049] };
-        assert_eq!(writer.put(&too_long), Err(Refusal(8)));
-        writer.put(&Record { seconds, microseconds, original, frame }).expect("room for the record");
+        assert_eq!(writer.put_record(&too_long), Err(Refusal(8)));
+        writer.put_record(&Record { seconds, microseconds, original, frame }).expect("room for the record");
         let record = second::capture::Record { second: seconds, microsecond: microseconds, original, frame };
         expected.extend(record.written().expect("no more than 2,048 bytes"));
         assert_eq!(writer.written(), expected);
@@ -172,12 +187,12 @@ fn written_captures() {
     // 15 bytes are left, one too few for a record's header: neither refusal touches them.
     for (frame, number) in [(&[0; 2049][..], 8), (&[], 9)] {
         let refused = Record { seconds: 0, microseconds: 0, original: 0, frame };
-        assert_eq!(writer.put(&refused), Err(Refusal(number)));
+        assert_eq!(writer.put_record(&refused), Err(Refusal(number)));
     }
     assert_eq!(writer.written(), expected);
     expected.extend([0xEE; 15]);
     assert_eq!(room[..], expected);
     let mut small = [0xEE; 23];
-    assert_eq!(CaptureWriter::start(&mut small).err(), Some(Refusal(9)));
+    assert_eq!(CaptureWriter::put_header(&mut small).err(), Some(Refusal(9)));
     assert_eq!(small, [0xEE; 23]);
 }

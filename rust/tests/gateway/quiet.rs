@@ -2,6 +2,7 @@
 //! be read. A store to such a page ends the tests with a fault, signal 11; with `-- --test-threads=1 --nocapture` the last
 //! test named is the one.
 
+use crate::calls::placing;
 use second::samples;
 use spritgrommet::{raw, Settings};
 use std::ffi::c_void;
@@ -60,11 +61,11 @@ impl Records {
     /// Passes a time alone, with factory settings and one line of entries.
     fn pass(&self, old: u32, new: u32) {
         let (mut tags, mut counts, mut clock) = ([0; 4], [i16::MIN; 4], old);
-        let (tags, counts) = (tags.as_mut_ptr(), counts.as_mut_ptr());
+        let (tags, counts, settings) = (tags.as_mut_ptr(), counts.as_mut_ptr(), Settings::factory());
+        let (limits, placing) = (settings.limits, placing(settings));
         // SAFETY: each length is its table's; that nothing is stored to what may only be read is what is tested.
-        let refusal = unsafe {
-            raw::spritgrommet_pass(Settings::factory(), self.start, self.length, tags, 4, counts, 4, &mut clock, new)
-        };
+        let refusal =
+            unsafe { raw::spritgrommet_pass(limits, placing, self.start, self.length, tags, 4, counts, 4, &mut clock, new) };
         assert_eq!((refusal, clock), (0, new));
     }
 
@@ -72,11 +73,11 @@ impl Records {
     #[rustfmt::skip]
     fn judge(&self, old: u32, new: u32) {
         let (mut tags, mut counts, mut clock) = ([0; 4], [i16::MIN; 4], old);
-        let packet = samples::udp(0x0A00_0001, 0x0A00_0002);
+        let (packet, settings) = (samples::udp(0x0A00_0001, 0x0A00_0002), Settings::factory());
         // SAFETY: as above; no side list has an entry.
         let answer = unsafe {
             raw::spritgrommet_judge(
-                Settings::factory(), [].as_ptr(), 0, [].as_ptr(), 0, self.start, self.length,
+                settings.limits, placing(settings), [].as_ptr(), 0, [].as_ptr(), 0, self.start, self.length,
                 tags.as_mut_ptr(), 4, counts.as_mut_ptr(), 4, &mut clock, new, packet.as_ptr(), packet.len(),
             )
         };

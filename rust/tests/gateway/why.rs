@@ -11,8 +11,8 @@ use second::header::Kind;
 use second::samples::{self, CELL, PLANT};
 use second::sides::Decided;
 use second::why::{self, Facts, KINDS, MARK};
-use spritgrommet::raw::{self, PlainAnswer, PlainReason};
-use spritgrommet::{winner, Answer, Dropped, Entry, Gateway, Reason, Refusal, Settings, Side, Verdict};
+use spritgrommet::raw::{self, Placing, PlainAnswer, PlainReason};
+use spritgrommet::{winner, Answer, Dropped, Entry, Gateway, Limits, Reason, Refusal, Settings, Side, Verdict};
 use std::collections::{BTreeMap, BTreeSet};
 
 /// The count of an entry that is empty.
@@ -26,7 +26,8 @@ const OF_PLANT: Entry = Entry { number: 1, address: 0xC0A8_0000, prefix: 16 };
 /// All that the archive's functions are lent, or a copy of it.
 #[derive(Clone, Debug, PartialEq, Eq)]
 struct Lent {
-    settings: Settings,
+    limits: Limits,
+    placing: Placing,
     cell: Vec<u8>,
     plant: Vec<u8>,
     records: Vec<u8>,
@@ -36,50 +37,31 @@ struct Lent {
 }
 
 impl Lent {
-    #[rustfmt::skip]
-    fn explained(&self, explain: raw::Explain, time: u32, bytes: &[u8]) -> PlainReason {
-        // SAFETY: each length is its table's.
-        unsafe {
-            explain(
-                self.settings, self.cell.as_ptr(), self.cell.len(), self.plant.as_ptr(), self.plant.len(),
-                self.records.as_ptr(), self.records.len(), self.tags.as_ptr(), self.tags.len(),
-                self.counts.as_ptr(), self.counts.len(), &self.clock, time, bytes.as_ptr(), bytes.len(),
-            )
-        }
-    }
-
-    #[rustfmt::skip]
-    fn judged(&mut self, judge: raw::Judge, time: u32, bytes: &[u8]) -> PlainAnswer {
-        // SAFETY: each length is its table's, and none of them overlap.
-        unsafe {
-            judge(
-                self.settings, self.cell.as_ptr(), self.cell.len(), self.plant.as_ptr(), self.plant.len(),
-                self.records.as_mut_ptr(), self.records.len(), self.tags.as_mut_ptr(), self.tags.len(),
-                self.counts.as_mut_ptr(), self.counts.len(), &mut self.clock, time, bytes.as_ptr(), bytes.len(),
-            )
-        }
-    }
-
     fn why(&self, time: u32, packet: &[u8]) -> PlainReason {
-        self.explained(raw::spritgrommet_why, time, packet)
+        let Lent { limits, placing, cell, plant, records, tags, counts, clock } = self;
+        raw::why(*limits, *placing, cell, plant, records, tags, counts, clock, time, packet)
+    }
+
+    fn why_frame(&self, time: u32, frame: &[u8]) -> PlainReason {
+        let Lent { limits, placing, cell, plant, records, tags, counts, clock } = self;
+        raw::why_frame(*limits, *placing, cell, plant, records, tags, counts, clock, time, frame)
     }
 
     fn judge(&mut self, time: u32, packet: &[u8]) -> PlainAnswer {
-        self.judged(raw::spritgrommet_judge, time, packet)
+        let Lent { limits, placing, cell, plant, records, tags, counts, clock } = self;
+        raw::judge(*limits, *placing, cell, plant, records, tags, counts, clock, time, packet)
+    }
+
+    fn judge_frame(&mut self, time: u32, frame: &[u8]) -> PlainAnswer {
+        let Lent { limits, placing, cell, plant, records, tags, counts, clock } = self;
+        raw::judge_frame(*limits, *placing, cell, plant, records, tags, counts, clock, time, frame)
     }
 
     /// A copy, after a time has passed.
-    #[rustfmt::skip]
     fn passed(&self, time: u32) -> Lent {
         let mut copy = self.clone();
-        // SAFETY: as in `judged`.
-        let refusal = unsafe {
-            raw::spritgrommet_pass(
-                copy.settings, copy.records.as_mut_ptr(), copy.records.len(), copy.tags.as_mut_ptr(), copy.tags.len(),
-                copy.counts.as_mut_ptr(), copy.counts.len(), &mut copy.clock, time,
-            )
-        };
-        assert_eq!(refusal, 0);
+        let Lent { limits, placing, records, tags, counts, clock, .. } = &mut copy;
+        assert_eq!(raw::pass(*limits, *placing, records, tags, counts, clock, time), 0);
         copy
     }
 }
@@ -124,8 +106,8 @@ impl Scene {
     fn facts_at(&self, settings: Settings, time: u32) -> Facts {
         let passed = |of: u32| i64::from(time / of - SECOND / of);
         let now = self.facts();
-        let lives = passed(60) == 0 || i64::from(self.age) + passed(60) <= settings.dconn.into();
-        let lowered = 0.max(now.count - passed(settings.dmiss.into()));
+        let lives = passed(60) == 0 || i64::from(self.age) + passed(60) <= settings.limits.dconn.into();
+        let lowered = 0.max(now.count - passed(settings.limits.dmiss.into()));
         Facts {
             count: if now.count > 0 { lowered } else { now.count },
             plant_mark: now.plant_mark && lives,
@@ -158,7 +140,8 @@ impl Scene {
         tags[first..first + 4].copy_from_slice(&[tag ^ 1, tag, tag, tag ^ 2]);
         counts[first..first + 4].copy_from_slice(&[300, EMPTY, self.entry, -7]);
         let (cell, plant) = (calls::CELL.to_vec(), calls::PLANT.to_vec());
-        Lent { settings, cell, plant, records, tags, counts, clock: SECOND }
+        let (limits, placing) = (settings.limits, calls::placing(settings));
+        Lent { limits, placing, cell, plant, records, tags, counts, clock: SECOND }
     }
 
     /// Whether the judge forwards the packet.
@@ -185,7 +168,7 @@ fn is_forwarded(answer: PlainAnswer) -> bool {
 /// Factory settings but for T, and keys of its own for each T.
 fn settings_with(threshold: u16) -> Settings {
     let random = &mut Random(threshold.into());
-    Settings { threshold, keys: std::array::from_fn(|_| random.word()), ..Settings::factory() }
+    Settings::factory().with_threshold(threshold).with_keys(std::array::from_fn(|_| random.word()))
 }
 
 /// Counts of both sides of T, a negative one, and none.
@@ -394,7 +377,7 @@ fn each_fact_changed_alone() {
 fn at_a_later_second() {
     let mut changes = BTreeSet::new();
     for (dmiss, dconn, threshold) in [(7, 10, 5), (60, 10, 5), (61, 10, 2), (1, 62, 255), (3_600, 1, 1)] {
-        let settings = Settings { dmiss, dconn, ..settings_with(threshold) };
+        let settings = settings_with(threshold).with_dmiss(dmiss).with_dconn(dconn);
         // What the second program tells of facts is kept: it tries 65,535 counts for it.
         let mut kept = BTreeMap::new();
         // The last ages that are over Dconn after no boundary, after one and after two, and one that is not.
@@ -435,14 +418,14 @@ fn refused_as_the_packet_is() {
     let good = settings_with(5);
     let settings = [
         (0, good),
-        (1, Settings { threshold: 0, ..good }),
-        (1, Settings { threshold: 256, ..good }),
-        (1, Settings { floor: -1_001, ..good }),
-        (1, Settings { floor: 1, ..good }),
-        (1, Settings { dmiss: 0, ..good }),
-        (1, Settings { dmiss: 3_601, ..good }),
-        (1, Settings { dconn: 0, ..good }),
-        (1, Settings { dconn: 63, ..good }),
+        (1, good.with_threshold(0)),
+        (1, good.with_threshold(256)),
+        (1, good.with_floor(-1_001)),
+        (1, good.with_floor(1)),
+        (1, good.with_dmiss(0)),
+        (1, good.with_dmiss(3_601)),
+        (1, good.with_dconn(0)),
+        (1, good.with_dconn(63)),
     ];
     let sizes = [
         (0, [16, 4, 4]),
@@ -480,13 +463,13 @@ fn refused_as_the_packet_is() {
         (5, changed(0, 0x45)[..39].to_vec()),
         (5, samples::udp(CELL, PLANT)[..27].to_vec()),
     ];
-    let mut numbers = BTreeSet::new();
-    for (by_settings, settings) in settings {
+    let (mut numbers, placing) = (BTreeSet::new(), calls::placing(good));
+    for (by_settings, Settings { limits, .. }) in settings {
         for (by_sizes, [records, tags, counts]) in sizes {
             for (by_list, list) in &lists {
                 let (records, tags, counts) = (vec![0; records], vec![0; tags], vec![EMPTY; counts]);
                 let plant = calls::PLANT.to_vec();
-                let lent = Lent { settings, cell: list.clone(), plant, records, tags, counts, clock: SECOND };
+                let lent = Lent { limits, placing, cell: list.clone(), plant, records, tags, counts, clock: SECOND };
                 // The bad list may be the other one, too.
                 let swapped = Lent { cell: calls::CELL.to_vec(), plant: list.clone(), ..lent.clone() };
                 for (by_time, time) in [(0, SECOND), (0, 200), (4, SECOND - 1)] {
@@ -510,14 +493,13 @@ fn refused_alike(lent: &Lent, time: u32, packet: &[u8], number: u8) {
     let frame = samples::ethernet(packet);
     let (short, mut other) = (&frame[..13], frame.clone());
     other[13] = 6;
-    let by_packet = (raw::spritgrommet_why as raw::Explain, raw::spritgrommet_judge as raw::Judge);
-    let by_frame = (raw::spritgrommet_why_frame as raw::Explain, raw::spritgrommet_judge_frame as raw::Judge);
+    type Both = (fn(&Lent, u32, &[u8]) -> PlainReason, fn(&mut Lent, u32, &[u8]) -> PlainAnswer);
+    let (by_packet, by_frame): (Both, Both) = ((Lent::why, Lent::judge), (Lent::why_frame, Lent::judge_frame));
     // A frame that is too short or carries something else does not reach the gateway, whatever else is wrong.
-    for ((explain, judge), bytes, number) in
+    for ((why, judge), bytes, number) in
         [(by_packet, packet, number), (by_frame, &frame, number), (by_frame, short, 5), (by_frame, &other, 0)]
     {
-        let reason = lent.explained(explain, time, bytes);
-        let answer = lent.clone().judged(judge, time, bytes);
+        let (reason, answer) = (why(lent, time, bytes), judge(&mut lent.clone(), time, bytes));
         assert_eq!((reason.refusal, answer.refusal), (number, number), "at {time}: {lent:?} {bytes:?}");
         assert_eq!(reason.verdict, answer.verdict);
         if number != 0 || answer.verdict == 0 {
@@ -533,12 +515,12 @@ fn the_incident() {
     let plants = (PLANT..).take(12);
     for plant in plants.clone() {
         assert_eq!(gateway.why(100, &samples::udp(plant, CELL)), Ok(Reason::Forwarded(Verdict::Uncounted)));
-        gateway.packet(100, &samples::udp(plant, CELL)).expect("not refused");
+        gateway.judge(100, &samples::udp(plant, CELL)).expect("not refused");
     }
     for (number, plant) in (1..).zip(plants) {
         let packet = samples::udp(CELL, plant);
         let why = gateway.why(7_300, &packet);
-        let Answer { verdict, count, .. } = gateway.packet(7_300, &packet).expect("not refused");
+        let Answer { verdict, count, .. } = gateway.judge(7_300, &packet).expect("not refused");
         if number <= 5 {
             assert_eq!((verdict, count), (Verdict::FreshContact, Some(number)));
             assert_eq!(why, Ok(Reason::Forwarded(verdict)));
@@ -567,7 +549,7 @@ fn run(seed: u64, calls: u32, met: &mut BTreeMap<(u8, [bool; 4]), u32>) {
         assert_eq!(gateway, before);
         let reason = told(why);
         assert_eq!(reason, expected(why::explain(&second, time, &packet)), "seed {seed}, call {call}");
-        match gateway.packet(time, &packet) {
+        match gateway.judge(time, &packet) {
             Err(refusal) => assert_eq!(why, Err(refusal)),
             Ok(Answer { verdict, count, .. }) => {
                 assert_eq!((reason.refusal, reason.verdict), (0, verdict as u8));
@@ -613,7 +595,7 @@ fn the_entries_that_decided() {
         Entry { number, address, prefix: prefix as u8 }
     };
     let (of_cell, of_plant) = (bytes_of(&cell), bytes_of(&plant));
-    let gateway = Gateway::start(Settings::factory(), &of_cell, &of_plant, 16, 1, 0).expect("good settings and sizes");
+    let gateway = Gateway::cold_start(Settings::factory(), &of_cell, &of_plant, 16, 1, 0).expect("good settings and sizes");
     for (source, cell_entry) in [(0x0A00_0001, 1), (0x0A01_0001, 2), (0x0A01_0201, 3), (0x0A01_0203, 5)] {
         for (destination, plant_entry) in [(0xFFFF_FFFF, 1), (0xC0A8_0101, 2), (0xC0A8_01FF, 5)] {
             assert_eq!(winner(&of_cell, &of_plant, source), Some((Side::Cell, cell_entry)));
@@ -626,7 +608,7 @@ fn the_entries_that_decided() {
     let (random, mut later_entries) = (&mut Random(7), 0);
     for _ in 0..2_000 {
         let (cell, plant) = (bytes_of(list(random)), bytes_of(list(random)));
-        let gateway = Gateway::start(Settings::factory(), &cell, &plant, 16, 1, 0).expect("good settings and sizes");
+        let gateway = Gateway::cold_start(Settings::factory(), &cell, &plant, 16, 1, 0).expect("good settings and sizes");
         for _ in 0..20 {
             let (source, destination) = (address(random), address(random));
             let reason = told(gateway.why(0, &samples::tcp((source, 1), (destination, 2), 18)));
@@ -662,7 +644,7 @@ fn nothing_is_stored_to() {
             // SAFETY: each length is its table's, and each table starts at a multiple of its elements' size.
             let reason = unsafe {
                 raw::spritgrommet_why(
-                    settings, lent.cell.as_ptr(), lent.cell.len(), lent.plant.as_ptr(), lent.plant.len(),
+                    lent.limits, lent.placing, lent.cell.as_ptr(), lent.cell.len(), lent.plant.as_ptr(), lent.plant.len(),
                     records.as_ptr(), records.len(), tags.as_ptr().cast(), lent.tags.len(),
                     counts.as_ptr().cast(), lent.counts.len(), clock.as_ptr().cast(), time, packet.as_ptr(), packet.len(),
                 )

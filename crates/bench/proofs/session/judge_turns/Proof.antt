@@ -8,11 +8,11 @@ use Rattle.bench.proofs.session.judge_turns.Statement.{statement}
 use Rattle.bench.proofs.session.judge_turns.Tie as tie
 
 abbrev Inv-loop : tie.InvT-loop
-Inv-loop from to records₀ tags₀ counts₀ clock₀ tally₀ turn₀ records tags counts clock tally turn =
+Inv-loop placing from to records₀ tags₀ counts₀ clock₀ tally₀ turn₀ records tags counts clock tally turn =
     (length records ≡ length records₀) × (length tags ≡ length tags₀) × (length counts ≡ length counts₀)
 
 abbrev μ-loop : tie.MeasureT-loop
-μ-loop from to records₀ tags₀ counts₀ clock₀ tally₀ turn₀ records tags counts clock tally turn = to - turn
+μ-loop placing from to records₀ tags₀ counts₀ clock₀ tally₀ turn₀ records tags counts clock tally turn = to - turn
 
 empty-requires : tie.Need-empty-requires Inv-loop μ-loop
 empty-requires c κs = tt
@@ -39,9 +39,9 @@ loop-again : tie.Need-loop-again Inv-loop μ-loop
 loop-again c =
     let judged = c .before .before .before .before .before .before .before in
     let held = judged .before .before .before .before .before .before in (
-      judged .judge .kept .1 .0 ∙ held .loop .inv .0,
-      judged .judge .kept .1 .1 .0 ∙ held .loop .inv .1,
-      judged .judge .kept .1 .1 .1 .0 ∙ held .loop .inv .2,
+      judged .judge .kept .1 .1 .0 ∙ held .loop .inv .0,
+      judged .judge .kept .1 .1 .1 .0 ∙ held .loop .inv .1,
+      judged .judge .kept .1 .1 .1 .1 .0 ∙ held .loop .inv .2,
     )
 
 same-length : tie.Need-same-length Inv-loop μ-loop
