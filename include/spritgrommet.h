@@ -171,22 +171,22 @@ struct spritgrommet_started spritgrommet_cold_start(struct spritgrommet_settings
                                                     uint32_t *clock, uint32_t time);
 
 /* `spritgrommet_gateway_pass` below, over its parts. */
-uint8_t spritgrommet_pass(struct spritgrommet_limits limits, struct spritgrommet_placing placing, uint8_t *records, size_t records_length,
-                          uint32_t *tags, size_t tags_length, int16_t *counts, size_t counts_length, uint32_t *clock, uint32_t time);
+uint8_t spritgrommet_pass(struct spritgrommet_placing placing, uint8_t *records, size_t records_length, uint32_t *tags, size_t tags_length,
+                          int16_t *counts, size_t counts_length, uint32_t *clock, struct spritgrommet_limits limits, uint32_t time);
 
 /* `spritgrommet_gateway_judge` below, over its parts. */
-struct spritgrommet_answer spritgrommet_judge(struct spritgrommet_limits limits, struct spritgrommet_placing placing, const uint8_t *cell,
-                                              size_t cell_length, const uint8_t *plant, size_t plant_length, uint8_t *records,
-                                              size_t records_length, uint32_t *tags, size_t tags_length, int16_t *counts,
-                                              size_t counts_length, uint32_t *clock, uint32_t time, const uint8_t *packet,
+struct spritgrommet_answer spritgrommet_judge(const uint8_t *cell, size_t cell_length, const uint8_t *plant, size_t plant_length,
+                                              struct spritgrommet_placing placing, uint8_t *records, size_t records_length, uint32_t *tags,
+                                              size_t tags_length, int16_t *counts, size_t counts_length, uint32_t *clock,
+                                              struct spritgrommet_limits limits, uint32_t time, const uint8_t *packet,
                                               size_t packet_length);
 
 /* `spritgrommet_gateway_judge_frame` below, over its parts. */
-struct spritgrommet_answer spritgrommet_judge_frame(struct spritgrommet_limits limits, struct spritgrommet_placing placing,
-                                                    const uint8_t *cell, size_t cell_length, const uint8_t *plant, size_t plant_length,
-                                                    uint8_t *records, size_t records_length, uint32_t *tags, size_t tags_length,
-                                                    int16_t *counts, size_t counts_length, uint32_t *clock, uint32_t time,
-                                                    const uint8_t *frame, size_t frame_length);
+struct spritgrommet_answer spritgrommet_judge_frame(const uint8_t *cell, size_t cell_length, const uint8_t *plant, size_t plant_length,
+                                                    struct spritgrommet_placing placing, uint8_t *records, size_t records_length,
+                                                    uint32_t *tags, size_t tags_length, int16_t *counts, size_t counts_length,
+                                                    uint32_t *clock, struct spritgrommet_limits limits, uint32_t time, const uint8_t *frame,
+                                                    size_t frame_length);
 
 /* Which entry of the side lists decides on an address: the longest prefix that holds it; at equal length the cell list wins; inside a
  * list the first such entry. It is never refused: a list that number 3 refuses is read entry by entry all the same, where one with a prefix
@@ -215,17 +215,17 @@ struct spritgrommet_written spritgrommet_put_record(uint8_t *room, size_t room_l
                                                     uint32_t original, const uint8_t *frame, size_t frame_length);
 
 /* `spritgrommet_gateway_why` below, over its parts, in libembed_why.a. Tables and clock are only read. */
-struct spritgrommet_reason spritgrommet_why(struct spritgrommet_limits limits, struct spritgrommet_placing placing, const uint8_t *cell,
-                                            size_t cell_length, const uint8_t *plant, size_t plant_length, const uint8_t *records,
-                                            size_t records_length, const uint32_t *tags, size_t tags_length, const int16_t *counts,
-                                            size_t counts_length, const uint32_t *clock, uint32_t time, const uint8_t *packet,
+struct spritgrommet_reason spritgrommet_why(const uint8_t *cell, size_t cell_length, const uint8_t *plant, size_t plant_length,
+                                            struct spritgrommet_placing placing, const uint8_t *records, size_t records_length,
+                                            const uint32_t *tags, size_t tags_length, const int16_t *counts, size_t counts_length,
+                                            const uint32_t *clock, struct spritgrommet_limits limits, uint32_t time, const uint8_t *packet,
                                             size_t packet_length);
 
 /* `spritgrommet_gateway_why_frame` below, over its parts, in libembed_why.a. Tables and clock are only read. */
-struct spritgrommet_reason spritgrommet_why_frame(struct spritgrommet_limits limits, struct spritgrommet_placing placing,
-                                                  const uint8_t *cell, size_t cell_length, const uint8_t *plant, size_t plant_length,
-                                                  const uint8_t *records, size_t records_length, const uint32_t *tags, size_t tags_length,
-                                                  const int16_t *counts, size_t counts_length, const uint32_t *clock, uint32_t time,
+struct spritgrommet_reason spritgrommet_why_frame(const uint8_t *cell, size_t cell_length, const uint8_t *plant, size_t plant_length,
+                                                  struct spritgrommet_placing placing, const uint8_t *records, size_t records_length,
+                                                  const uint32_t *tags, size_t tags_length, const int16_t *counts, size_t counts_length,
+                                                  const uint32_t *clock, struct spritgrommet_limits limits, uint32_t time,
                                                   const uint8_t *frame, size_t frame_length);
 
 /* ---- the same, over a gateway: the name of each has the word `gateway` before the name above ---- */
@@ -267,8 +267,8 @@ static inline uint8_t spritgrommet_gateway_cold_start(struct spritgrommet *gatew
 /* Passes a time, with no packet: records age and counts fall as the clock says. Answers 0, 1, 2 or 4. */
 static inline uint8_t spritgrommet_gateway_pass(struct spritgrommet *gateway, uint32_t time)
 {
-    return spritgrommet_pass(gateway->settings.limits, gateway->placing, gateway->records, gateway->record_count, gateway->tags,
-                             gateway->entry_count, gateway->counts, gateway->entry_count, &gateway->clock, time);
+    return spritgrommet_pass(gateway->placing, gateway->records, gateway->record_count, gateway->tags, gateway->entry_count,
+                             gateway->counts, gateway->entry_count, &gateway->clock, gateway->settings.limits, time);
 }
 
 /* Judges a packet, from its IPv4 header on, that comes at a time. Answers a refusal, 1 to 6, or the verdict: 5 and 6 are dropped, 1 to 4
@@ -276,9 +276,9 @@ static inline uint8_t spritgrommet_gateway_pass(struct spritgrommet *gateway, ui
 static inline struct spritgrommet_answer spritgrommet_gateway_judge(struct spritgrommet *gateway, uint32_t time, const uint8_t *packet,
                                                                     size_t length)
 {
-    return spritgrommet_judge(gateway->settings.limits, gateway->placing, gateway->cell.bytes, gateway->cell.length, gateway->plant.bytes,
-                              gateway->plant.length, gateway->records, gateway->record_count, gateway->tags, gateway->entry_count,
-                              gateway->counts, gateway->entry_count, &gateway->clock, time, packet, length);
+    return spritgrommet_judge(gateway->cell.bytes, gateway->cell.length, gateway->plant.bytes, gateway->plant.length, gateway->placing,
+                              gateway->records, gateway->record_count, gateway->tags, gateway->entry_count, gateway->counts,
+                              gateway->entry_count, &gateway->clock, gateway->settings.limits, time, packet, length);
 }
 
 /* The same for an Ethernet frame. One under 14 bytes is refused by 5, and an EtherType other than 0x0800 gets verdict 0; neither reaches
@@ -286,9 +286,9 @@ static inline struct spritgrommet_answer spritgrommet_gateway_judge(struct sprit
 static inline struct spritgrommet_answer spritgrommet_gateway_judge_frame(struct spritgrommet *gateway, uint32_t time,
                                                                           const uint8_t *frame, size_t length)
 {
-    return spritgrommet_judge_frame(gateway->settings.limits, gateway->placing, gateway->cell.bytes, gateway->cell.length,
-                                    gateway->plant.bytes, gateway->plant.length, gateway->records, gateway->record_count, gateway->tags,
-                                    gateway->entry_count, gateway->counts, gateway->entry_count, &gateway->clock, time, frame, length);
+    return spritgrommet_judge_frame(gateway->cell.bytes, gateway->cell.length, gateway->plant.bytes, gateway->plant.length,
+                                    gateway->placing, gateway->records, gateway->record_count, gateway->tags, gateway->entry_count,
+                                    gateway->counts, gateway->entry_count, &gateway->clock, gateway->settings.limits, time, frame, length);
 }
 
 /* Why a packet, from its IPv4 header on, that comes at a time is dropped, if it is. Answers the refusal or the verdict that
@@ -298,18 +298,18 @@ static inline struct spritgrommet_answer spritgrommet_gateway_judge_frame(struct
 static inline struct spritgrommet_reason spritgrommet_gateway_why(const struct spritgrommet *gateway, uint32_t time,
                                                                   const uint8_t *packet, size_t length)
 {
-    return spritgrommet_why(gateway->settings.limits, gateway->placing, gateway->cell.bytes, gateway->cell.length, gateway->plant.bytes,
-                            gateway->plant.length, gateway->records, gateway->record_count, gateway->tags, gateway->entry_count,
-                            gateway->counts, gateway->entry_count, &gateway->clock, time, packet, length);
+    return spritgrommet_why(gateway->cell.bytes, gateway->cell.length, gateway->plant.bytes, gateway->plant.length, gateway->placing,
+                            gateway->records, gateway->record_count, gateway->tags, gateway->entry_count, gateway->counts,
+                            gateway->entry_count, &gateway->clock, gateway->settings.limits, time, packet, length);
 }
 
 /* The same for an Ethernet frame, with the refusal or the verdict that `spritgrommet_gateway_judge_frame` would answer. */
 static inline struct spritgrommet_reason spritgrommet_gateway_why_frame(const struct spritgrommet *gateway, uint32_t time,
                                                                         const uint8_t *frame, size_t length)
 {
-    return spritgrommet_why_frame(gateway->settings.limits, gateway->placing, gateway->cell.bytes, gateway->cell.length,
-                                  gateway->plant.bytes, gateway->plant.length, gateway->records, gateway->record_count, gateway->tags,
-                                  gateway->entry_count, gateway->counts, gateway->entry_count, &gateway->clock, time, frame, length);
+    return spritgrommet_why_frame(gateway->cell.bytes, gateway->cell.length, gateway->plant.bytes, gateway->plant.length, gateway->placing,
+                                  gateway->records, gateway->record_count, gateway->tags, gateway->entry_count, gateway->counts,
+                                  gateway->entry_count, &gateway->clock, gateway->settings.limits, time, frame, length);
 }
 
 #ifdef __cplusplus

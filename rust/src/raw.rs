@@ -163,7 +163,6 @@ extern "C" {
         time: u32,
     ) -> PlainStarted;
     pub fn spritgrommet_pass(
-        limits: Limits,
         placing: Placing,
         records: *mut u8,
         records_length: usize,
@@ -172,15 +171,15 @@ extern "C" {
         counts: *mut i16,
         counts_length: usize,
         clock: *mut u32,
+        limits: Limits,
         time: u32,
     ) -> u8;
     pub fn spritgrommet_judge(
-        limits: Limits,
-        placing: Placing,
         cell: *const u8,
         cell_length: usize,
         plant: *const u8,
         plant_length: usize,
+        placing: Placing,
         records: *mut u8,
         records_length: usize,
         tags: *mut u32,
@@ -188,17 +187,17 @@ extern "C" {
         counts: *mut i16,
         counts_length: usize,
         clock: *mut u32,
+        limits: Limits,
         time: u32,
         packet: *const u8,
         packet_length: usize,
     ) -> PlainAnswer;
     pub fn spritgrommet_judge_frame(
-        limits: Limits,
-        placing: Placing,
         cell: *const u8,
         cell_length: usize,
         plant: *const u8,
         plant_length: usize,
+        placing: Placing,
         records: *mut u8,
         records_length: usize,
         tags: *mut u32,
@@ -206,6 +205,7 @@ extern "C" {
         counts: *mut i16,
         counts_length: usize,
         clock: *mut u32,
+        limits: Limits,
         time: u32,
         frame: *const u8,
         frame_length: usize,
@@ -234,12 +234,11 @@ extern "C" {
         frame_length: usize,
     ) -> PlainWritten;
     pub fn spritgrommet_why(
-        limits: Limits,
-        placing: Placing,
         cell: *const u8,
         cell_length: usize,
         plant: *const u8,
         plant_length: usize,
+        placing: Placing,
         records: *const u8,
         records_length: usize,
         tags: *const u32,
@@ -247,17 +246,17 @@ extern "C" {
         counts: *const i16,
         counts_length: usize,
         clock: *const u32,
+        limits: Limits,
         time: u32,
         packet: *const u8,
         packet_length: usize,
     ) -> PlainReason;
     pub fn spritgrommet_why_frame(
-        limits: Limits,
-        placing: Placing,
         cell: *const u8,
         cell_length: usize,
         plant: *const u8,
         plant_length: usize,
+        placing: Placing,
         records: *const u8,
         records_length: usize,
         tags: *const u32,
@@ -265,6 +264,7 @@ extern "C" {
         counts: *const i16,
         counts_length: usize,
         clock: *const u32,
+        limits: Limits,
         time: u32,
         frame: *const u8,
         frame_length: usize,
@@ -308,17 +308,16 @@ pub fn cold_start(
 /// Passes a time, with no packet. The answer is the number of the refusal, or 0.
 #[inline]
 pub fn pass(
-    limits: Limits,
     placing: Placing,
     records: &mut [u8],
     tags: &mut [u32],
     counts: &mut [i16],
     clock: &mut u32,
+    limits: Limits,
     time: u32,
 ) -> u8 {
     unsafe {
         spritgrommet_pass(
-            limits,
             placing,
             records.as_mut_ptr(),
             records.len(),
@@ -327,6 +326,7 @@ pub fn pass(
             counts.as_mut_ptr(),
             counts.len(),
             clock,
+            limits,
             time,
         )
     }
@@ -335,25 +335,24 @@ pub fn pass(
 /// Judges a packet, from its IPv4 header on, that comes at a time. The answer is the refusal, or the verdict with what belongs to it.
 #[inline]
 pub fn judge(
-    limits: Limits,
-    placing: Placing,
     cell: &[u8],
     plant: &[u8],
+    placing: Placing,
     records: &mut [u8],
     tags: &mut [u32],
     counts: &mut [i16],
     clock: &mut u32,
+    limits: Limits,
     time: u32,
     packet: &[u8],
 ) -> PlainAnswer {
     unsafe {
         spritgrommet_judge(
-            limits,
-            placing,
             cell.as_ptr(),
             cell.len(),
             plant.as_ptr(),
             plant.len(),
+            placing,
             records.as_mut_ptr(),
             records.len(),
             tags.as_mut_ptr(),
@@ -361,6 +360,7 @@ pub fn judge(
             counts.as_mut_ptr(),
             counts.len(),
             clock,
+            limits,
             time,
             packet.as_ptr(),
             packet.len(),
@@ -372,25 +372,24 @@ pub fn judge(
 /// by `frames::judge`, so that the archive has the judge once, in the function that is called for every packet.
 #[inline]
 pub fn judge_frame(
-    limits: Limits,
-    placing: Placing,
     cell: &[u8],
     plant: &[u8],
+    placing: Placing,
     records: &mut [u8],
     tags: &mut [u32],
     counts: &mut [i16],
     clock: &mut u32,
+    limits: Limits,
     time: u32,
     frame: &[u8],
 ) -> PlainAnswer {
     unsafe {
         spritgrommet_judge_frame(
-            limits,
-            placing,
             cell.as_ptr(),
             cell.len(),
             plant.as_ptr(),
             plant.len(),
+            placing,
             records.as_mut_ptr(),
             records.len(),
             tags.as_mut_ptr(),
@@ -398,6 +397,7 @@ pub fn judge_frame(
             counts.as_mut_ptr(),
             counts.len(),
             clock,
+            limits,
             time,
             frame.as_ptr(),
             frame.len(),
@@ -458,25 +458,24 @@ pub fn put_record(room: &mut [u8], at: usize, seconds: u32, microseconds: u32, o
 /// Why a packet, from its IPv4 header on, that comes at a time is dropped. Tables and clock are only read.
 #[inline]
 pub fn why(
-    limits: Limits,
-    placing: Placing,
     cell: &[u8],
     plant: &[u8],
+    placing: Placing,
     records: &[u8],
     tags: &[u32],
     counts: &[i16],
     clock: &u32,
+    limits: Limits,
     time: u32,
     packet: &[u8],
 ) -> PlainReason {
     unsafe {
         spritgrommet_why(
-            limits,
-            placing,
             cell.as_ptr(),
             cell.len(),
             plant.as_ptr(),
             plant.len(),
+            placing,
             records.as_ptr(),
             records.len(),
             tags.as_ptr(),
@@ -484,6 +483,7 @@ pub fn why(
             counts.as_ptr(),
             counts.len(),
             clock,
+            limits,
             time,
             packet.as_ptr(),
             packet.len(),
@@ -494,25 +494,24 @@ pub fn why(
 /// Why what an Ethernet frame that comes at a time carries is dropped. Tables and clock are only read.
 #[inline]
 pub fn why_frame(
-    limits: Limits,
-    placing: Placing,
     cell: &[u8],
     plant: &[u8],
+    placing: Placing,
     records: &[u8],
     tags: &[u32],
     counts: &[i16],
     clock: &u32,
+    limits: Limits,
     time: u32,
     frame: &[u8],
 ) -> PlainReason {
     unsafe {
         spritgrommet_why_frame(
-            limits,
-            placing,
             cell.as_ptr(),
             cell.len(),
             plant.as_ptr(),
             plant.len(),
+            placing,
             records.as_ptr(),
             records.len(),
             tags.as_ptr(),
@@ -520,6 +519,7 @@ pub fn why_frame(
             counts.as_ptr(),
             counts.len(),
             clock,
+            limits,
             time,
             frame.as_ptr(),
             frame.len(),

@@ -47,7 +47,7 @@ pub fn marked(records: usize, percent: u32) -> Vec<u8> {
 fn pass_ours(records: &mut [u8]) {
     let (mut tags, mut counts, mut clock) = ([0; 4], [i16::MIN; 4], 0);
     let (limits, placing) = black_box((CALLER.settings.limits, CALLER.placing));
-    black_box(ours::pass(limits, placing, records, &mut tags, &mut counts, &mut clock, 60));
+    black_box(ours::pass(placing, records, &mut tags, &mut counts, &mut clock, limits, 60));
 }
 
 /// The same by the plain program, called as ours is.

@@ -66,14 +66,14 @@ fn judge(
     let packet = packet_of(turn);
     let set = Settings::factory();
     gateway::judge(
-        set.limits,
-        placing,
         &CELL_LIST,
         &PLANT_LIST,
+        placing,
         records,
         tags,
         counts,
         clock,
+        set.limits,
         time_of(turn),
         &packet,
     )

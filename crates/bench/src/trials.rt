@@ -153,24 +153,24 @@ fn finish_with(call: usize, trial: Trial, cell: &[u8], plant: &[u8], packet: &[u
     let lent_counts = &mut counts[0..counts_end];
     match call {
         JUDGE => lines::answer(gateway::judge(
-            limits,
-            placing,
             cell,
             plant,
+            placing,
             lent,
             lent_tags,
             lent_counts,
             &mut clock,
+            limits,
             time,
             packet,
         )),
         PASS => lines::reply(gateway::pass(
-            limits,
             placing,
             lent,
             lent_tags,
             lent_counts,
             &mut clock,
+            limits,
             time,
         )),
         _ => lines::reply(start(limits, lent, lent_tags, lent_counts, &mut clock, time)),

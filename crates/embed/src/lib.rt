@@ -57,32 +57,32 @@ pub extern "C" fn spritgrommet_cold_start(
 // Passes a time, with no packet. The answer is the number of the refusal, or 0.
 #[no_mangle]
 pub extern "C" fn spritgrommet_pass(
-    limits: Limits,
     placing: Placing,
     records: &mut [u8],
     tags: &mut [u32],
     counts: &mut [i16],
     clock: &mut u32,
+    limits: Limits,
     time: u32,
 ) -> u8
     ensures { λ r. ⌜ left placing records tags counts clock r
         ≡ plainly refusalIn (passed (rulesOf limits) limits time (lent placing records tags counts clock)) ⌝ }
 {
-    let reply = gateway::pass(limits, placing, records, tags, counts, clock, time);
+    let reply = gateway::pass(placing, records, tags, counts, clock, limits, time);
     plain::of_reply(reply)
 }
 
 // Judges a packet, from its IPv4 header on, that comes at a time. The answer is the refusal, or the verdict with what belongs to it.
 #[no_mangle]
 pub extern "C" fn spritgrommet_judge(
-    limits: Limits,
-    placing: Placing,
     cell: &[u8],
     plant: &[u8],
+    placing: Placing,
     records: &mut [u8],
     tags: &mut [u32],
     counts: &mut [i16],
     clock: &mut u32,
+    limits: Limits,
     time: u32,
     packet: &[u8],
 ) -> PlainAnswer
@@ -91,14 +91,14 @@ pub extern "C" fn spritgrommet_judge(
         (judged (rulesOf limits) limits (now (cell .entry)) (now (plant .entry)) time (now (packet .entry)) (lent placing records tags counts clock)) ⌝ }
 {
     let answer = gateway::judge(
-        limits,
-        placing,
         cell,
         plant,
+        placing,
         records,
         tags,
         counts,
         clock,
+        limits,
         time,
         packet,
     );
@@ -109,14 +109,14 @@ pub extern "C" fn spritgrommet_judge(
 // `frames::judge`, so that the archive has the judge once, in the function that is called for every packet.
 #[no_mangle]
 pub extern "C" fn spritgrommet_judge_frame(
-    limits: Limits,
-    placing: Placing,
     cell: &[u8],
     plant: &[u8],
+    placing: Placing,
     records: &mut [u8],
     tags: &mut [u32],
     counts: &mut [i16],
     clock: &mut u32,
+    limits: Limits,
     time: u32,
     frame: &[u8],
 ) -> PlainAnswer
@@ -129,14 +129,14 @@ pub extern "C" fn spritgrommet_judge_frame(
         Inside::Packet => {
             let carried = &frame[14..];
             spritgrommet_judge(
-                limits,
-                placing,
                 cell,
                 plant,
+                placing,
                 records,
                 tags,
                 counts,
                 clock,
+                limits,
                 time,
                 carried,
             )

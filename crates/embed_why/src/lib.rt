@@ -16,14 +16,14 @@ use settings::Limits;
 // Why a packet, from its IPv4 header on, that comes at a time is dropped. Tables and clock are only read.
 #[no_mangle]
 pub extern "C" fn spritgrommet_why<'a>(
-    limits: Limits,
-    placing: Placing,
     cell: &'a [u8],
     plant: &'a [u8],
+    placing: Placing,
     records: &[u8],
     tags: &[u32],
     counts: &[i16],
     clock: &u32,
+    limits: Limits,
     time: u32,
     packet: &[u8],
 ) -> PlainReason
@@ -31,14 +31,14 @@ pub extern "C" fn spritgrommet_why<'a>(
         (whyOf (rulesOf limits) limits (now (cell .entry)) (now (plant .entry)) time (now (packet .entry)) (lent placing records tags counts clock)) ⌝ }
 {
     let reason = gateway::why(
-        limits,
-        placing,
         cell,
         plant,
+        placing,
         records,
         tags,
         counts,
         clock,
+        limits,
         time,
         packet,
     );
@@ -48,14 +48,14 @@ pub extern "C" fn spritgrommet_why<'a>(
 // Why what an Ethernet frame that comes at a time carries is dropped. Tables and clock are only read.
 #[no_mangle]
 pub extern "C" fn spritgrommet_why_frame<'a>(
-    limits: Limits,
-    placing: Placing,
     cell: &'a [u8],
     plant: &'a [u8],
+    placing: Placing,
     records: &[u8],
     tags: &[u32],
     counts: &[i16],
     clock: &u32,
+    limits: Limits,
     time: u32,
     frame: &[u8],
 ) -> PlainReason
@@ -63,14 +63,14 @@ pub extern "C" fn spritgrommet_why_frame<'a>(
         (frameExplained (rulesOf limits) limits (now (cell .entry)) (now (plant .entry)) time (now (frame .entry)) (lent placing records tags counts clock)) ⌝ }
 {
     let told = frames::why(
-        limits,
-        placing,
         cell,
         plant,
+        placing,
         records,
         tags,
         counts,
         clock,
+        limits,
         time,
         frame,
     );

@@ -32,14 +32,14 @@ pub fn what_is_in(frame: &[u8]) -> Inside
 // Judges the packet of a frame that comes at a time. Answers refusal 5 for a frame that is too short, verdict 0 for one that carries
 // something else than IPv4, and else what the gateway answers.
 pub fn judge(
-    limits: Limits,
-    placing: Placing,
     cell: &[u8],
     plant: &[u8],
+    placing: Placing,
     records: &mut [u8],
     tags: &mut [u32],
     counts: &mut [i16],
     clock: &mut u32,
+    limits: Limits,
     time: u32,
     frame: &[u8],
 ) -> Answer
@@ -51,14 +51,14 @@ pub fn judge(
         Inside::Packet => {
             let packet = &frame[14..];
             gateway::judge(
-                limits,
-                placing,
                 cell,
                 plant,
+                placing,
                 records,
                 tags,
                 counts,
                 clock,
+                limits,
                 time,
                 packet,
             )
@@ -70,14 +70,14 @@ pub fn judge(
 // Why the packet of a frame that comes at a time is dropped. Answers refusal 5 for a frame that is too short, that it is not ours for one that
 // carries something else than IPv4, and else what the gateway answers.
 pub fn why<'a>(
-    limits: Limits,
-    placing: Placing,
     cell: &'a [u8],
     plant: &'a [u8],
+    placing: Placing,
     records: &[u8],
     tags: &[u32],
     counts: &[i16],
     clock: &u32,
+    limits: Limits,
     time: u32,
     frame: &[u8],
 ) -> Explanation
@@ -88,14 +88,14 @@ pub fn why<'a>(
         Inside::Packet => {
             let packet = &frame[14..];
             gateway::why(
-                limits,
-                placing,
                 cell,
                 plant,
+                placing,
                 records,
                 tags,
                 counts,
                 clock,
+                limits,
                 time,
                 packet,
             )

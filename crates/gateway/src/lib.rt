@@ -72,25 +72,19 @@ pub fn cold_start(
 // Passes a time, with no packet: records age, counts decay and the clock moves. Answers refusal 1, 2 or 4, and then nothing is changed, or
 // that it is done.
 pub fn pass(
-    limits: Limits,
     placing: Placing,
     records: &mut [u8],
     tags: &mut [u32],
     counts: &mut [i16],
     clock: &mut u32,
+    limits: Limits,
     time: u32,
 ) -> Reply
     ensures { λ r. ⌜ left placing records tags counts clock r
         ≡ passed (rulesOf limits) limits time (lent placing records tags counts clock) ⌝ }
 {
-    let number = refusals::of_time(
-        limits,
-        records.len(),
-        tags.len(),
-        counts.len(),
-        *clock,
-        time,
-    );
+    let at = *clock;
+    let number = refusals::of_time(limits, records.len(), tags.len(), counts.len(), at, time);
     if number != 0 {
         return Reply::Refused(number);
     }
@@ -323,14 +317,14 @@ fn accept(
 // Judges a packet that comes at a time, and brings tables and clock up to it. Answers a refusal, 1 to 6, and then nothing is changed, or
 // the verdict with the count and the replaced address.
 pub fn judge(
-    limits: Limits,
-    placing: Placing,
     cell: &[u8],
     plant: &[u8],
+    placing: Placing,
     records: &mut [u8],
     tags: &mut [u32],
     counts: &mut [i16],
     clock: &mut u32,
+    limits: Limits,
     time: u32,
     packet: &[u8],
 ) -> Answer
@@ -523,14 +517,14 @@ fn explain_by_direction<'a>(
 // lists that decided, the count and T. Answers the refusal that the packet would get, or the verdict alone where it is not dropped. Tables,
 // clock and lists are only read, and no table is swept or copied.
 pub fn why<'a>(
-    limits: Limits,
-    placing: Placing,
     cell: &'a [u8],
     plant: &'a [u8],
+    placing: Placing,
     records: &[u8],
     tags: &[u32],
     counts: &[i16],
     clock: &u32,
+    limits: Limits,
     time: u32,
     packet: &[u8],
 ) -> Explanation

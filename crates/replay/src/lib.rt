@@ -94,14 +94,14 @@ fn ask(
 {
     if asks {
         return Asked::Why(frames::why(
-            program_limits(),
-            program_placing(),
             &CELL,
             &PLANT,
+            program_placing(),
             records,
             tags,
             counts,
             clock,
+            program_limits(),
             time,
             frame,
         ));
@@ -131,14 +131,14 @@ fn judge_record(
     let frame = &bytes[from..end];
     let asked = ask(asks, records, tags, counts, clock, time, frame);
     let answer = frames::judge(
-        program_limits(),
-        program_placing(),
         &CELL,
         &PLANT,
+        program_placing(),
         records,
         tags,
         counts,
         clock,
+        program_limits(),
         time,
         frame,
     );

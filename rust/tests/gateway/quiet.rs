@@ -65,7 +65,7 @@ impl Records {
         let (limits, placing) = (settings.limits, placing(settings));
         // SAFETY: each length is its table's; that nothing is stored to what may only be read is what is tested.
         let refusal =
-            unsafe { raw::spritgrommet_pass(limits, placing, self.start, self.length, tags, 4, counts, 4, &mut clock, new) };
+            unsafe { raw::spritgrommet_pass(placing, self.start, self.length, tags, 4, counts, 4, &mut clock, limits, new) };
         assert_eq!((refusal, clock), (0, new));
     }
 
@@ -77,8 +77,8 @@ impl Records {
         // SAFETY: as above; no side list has an entry.
         let answer = unsafe {
             raw::spritgrommet_judge(
-                settings.limits, placing(settings), [].as_ptr(), 0, [].as_ptr(), 0, self.start, self.length,
-                tags.as_mut_ptr(), 4, counts.as_mut_ptr(), 4, &mut clock, new, packet.as_ptr(), packet.len(),
+                [].as_ptr(), 0, [].as_ptr(), 0, placing(settings), self.start, self.length, tags.as_mut_ptr(), 4,
+                counts.as_mut_ptr(), 4, &mut clock, settings.limits, new, packet.as_ptr(), packet.len(),
             )
         };
         assert_eq!((answer.refusal, answer.verdict, clock), (0, 0, new));

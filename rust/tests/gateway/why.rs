@@ -39,29 +39,29 @@ struct Lent {
 impl Lent {
     fn why(&self, time: u32, packet: &[u8]) -> PlainReason {
         let Lent { limits, placing, cell, plant, records, tags, counts, clock } = self;
-        raw::why(*limits, *placing, cell, plant, records, tags, counts, clock, time, packet)
+        raw::why(cell, plant, *placing, records, tags, counts, clock, *limits, time, packet)
     }
 
     fn why_frame(&self, time: u32, frame: &[u8]) -> PlainReason {
         let Lent { limits, placing, cell, plant, records, tags, counts, clock } = self;
-        raw::why_frame(*limits, *placing, cell, plant, records, tags, counts, clock, time, frame)
+        raw::why_frame(cell, plant, *placing, records, tags, counts, clock, *limits, time, frame)
     }
 
     fn judge(&mut self, time: u32, packet: &[u8]) -> PlainAnswer {
         let Lent { limits, placing, cell, plant, records, tags, counts, clock } = self;
-        raw::judge(*limits, *placing, cell, plant, records, tags, counts, clock, time, packet)
+        raw::judge(cell, plant, *placing, records, tags, counts, clock, *limits, time, packet)
     }
 
     fn judge_frame(&mut self, time: u32, frame: &[u8]) -> PlainAnswer {
         let Lent { limits, placing, cell, plant, records, tags, counts, clock } = self;
-        raw::judge_frame(*limits, *placing, cell, plant, records, tags, counts, clock, time, frame)
+        raw::judge_frame(cell, plant, *placing, records, tags, counts, clock, *limits, time, frame)
     }
 
     /// A copy, after a time has passed.
     fn passed(&self, time: u32) -> Lent {
         let mut copy = self.clone();
         let Lent { limits, placing, records, tags, counts, clock, .. } = &mut copy;
-        assert_eq!(raw::pass(*limits, *placing, records, tags, counts, clock, time), 0);
+        assert_eq!(raw::pass(*placing, records, tags, counts, clock, *limits, time), 0);
         copy
     }
 }
@@ -644,9 +644,9 @@ fn nothing_is_stored_to() {
             // SAFETY: each length is its table's, and each table starts at a multiple of its elements' size.
             let reason = unsafe {
                 raw::spritgrommet_why(
-                    lent.limits, lent.placing, lent.cell.as_ptr(), lent.cell.len(), lent.plant.as_ptr(), lent.plant.len(),
-                    records.as_ptr(), records.len(), tags.as_ptr().cast(), lent.tags.len(),
-                    counts.as_ptr().cast(), lent.counts.len(), clock.as_ptr().cast(), time, packet.as_ptr(), packet.len(),
+                    lent.cell.as_ptr(), lent.cell.len(), lent.plant.as_ptr(), lent.plant.len(), lent.placing,
+                    records.as_ptr(), records.len(), tags.as_ptr().cast(), lent.tags.len(), counts.as_ptr().cast(),
+                    lent.counts.len(), clock.as_ptr().cast(), lent.limits, time, packet.as_ptr(), packet.len(),
                 )
             };
             assert_eq!(reason, lent.why(time, &packet));

@@ -20,17 +20,17 @@ part-frame-end c = search needs
 ask-requires : tie.Need-ask-requires
 ask-requires c κs = search needs
 
-program-limits-requires : tie.Need-program-limits-requires
-program-limits-requires c κs = search needs
-
-program-placing-requires : tie.Need-program-placing-requires
-program-placing-requires c κs = search needs
-
 slice-aggregate-judge : tie.Need-slice-aggregate-judge
 slice-aggregate-judge c = search needs
 
 slice-aggregate-judge-2 : tie.Need-slice-aggregate-judge-2
 slice-aggregate-judge-2 c = search needs
+
+program-placing-requires : tie.Need-program-placing-requires
+program-placing-requires c κs = search needs
+
+program-limits-requires : tie.Need-program-limits-requires
+program-limits-requires c κs = search needs
 
 judge-requires : tie.Need-judge-requires
 judge-requires c κs = search needs
@@ -47,9 +47,9 @@ same-length-3 c = search needs
 returns : tie.Need-returns
 returns c =
     let j = c .before .before .before .before .before in
-    let p = j .before .before .before .before .before .before .before in
-    let l = p .before in
-    let a = l .before in
+    let l = j .before in
+    let p = l .before .before .before .before .before in
+    let a = p .before .before .before in
     let f = a .before .before .before .before .before .before .before .before .before .before .before in
     let s = f .before .before .before .before .before .before .before .before in
     judged-as (s .args .asks) (s .args .is-first) _ (s .args .read) _ _ _ _ _ (f .start-first .ensures) (a .ask .ensures)
@@ -64,10 +64,10 @@ judge-record-spec =
     part-frame-start
     part-frame-end
     ask-requires
-    program-limits-requires
-    program-placing-requires
     slice-aggregate-judge
     slice-aggregate-judge-2
+    program-placing-requires
+    program-limits-requires
     judge-requires
     same-length
     same-length-2
