@@ -17,7 +17,7 @@ use Rattle.refusals.proofs.Tests.{time-in-order}
 use Rattle.gateway.specs.declared.Reply.{Reply}
 use Rattle.gateway.specs.declared.Reply.the-variants.{Refused, Done}
 use Rattle.gateway.specs.Calls.{State, After, unlessRefused, timeRefusalAt, passed}
-use Rattle.history.specs.Runs.{Site, Start, Call, packetAt, timeAlone, whyAt, bytesIn, Event, judgedAt, passedAt, explainedAt, stateAfter, eventOf, left, history}
+use Rattle.history.specs.Runs.{Site, Start, Call, packetAt, timeAlone, whyAt, bytesIn, Event, judgedAt, passedAt, explainedAt, stateAfter, eventOf, leftBy, history}
 use Rattle.history.specs.Told.{Judgement, judgementBy, told}
 use Rattle.history.specs.Fresh.{oursOf, cellAddress, tells, replacements, orBefore, clockAfter, packetIn, decays, credits, isFresh, freshBy, freshContacts}
 use Rattle.books.proofs.Apart.{same-head, same-tail, not-nil}
@@ -77,14 +77,14 @@ module _ (x : Setup) (start : Start) where
 
   -- ---- a run
   abbrev leaves : List Call → State
-  leaves calls = left site start calls
+  leaves calls = leftBy site start calls
 
   abbrev happened : List Call → List Event
   happened calls = history site start calls
 
   module _ (good : Good x start) where
     pub run : (calls : List Call) → AllFit x calls → Run x start (leaves calls) (happened calls)
-    unfolding left history
+    unfolding leftBy history
     run [] fit = run-start x start good
     run (call ∷ calls) fit = stepped (leaves calls) (happened calls) (run calls (fit .1)) call (fit .0) .run
 
@@ -94,7 +94,7 @@ module _ (x : Setup) (start : Start) where
     last call calls fits fit = stepped (leaves calls) (happened calls) (run calls fit) call fits
 
     clock-is : (calls : List Call) → AllFit x calls → leaves calls .clock ≡ clockAfter (start .state .clock) (happened calls)
-    unfolding left history
+    unfolding leftBy history
     clock-is [] fit = refl
     clock-is (call ∷ calls) fit =
         last call calls (fit .0) (fit .1) .time ∙ ap (orBefore (told (eventOf site (leaves calls) call) .clock)) (clock-is calls (fit .1))
@@ -102,7 +102,7 @@ module _ (x : Setup) (start : Start) where
     -- what was answered to each call, by what came before it
     rightly-at : (calls : List Call) → AllFit x calls → (newer older : List Event) (event : Event)
         → happened calls ≡ newer ++ (event ∷ older) → Rightly x start older (told event .judged)
-    unfolding left history
+    unfolding leftBy history
     rightly-at [] fit [] older event e = absurd (not-nil e)
     rightly-at [] fit (y ∷ newer) older event e = absurd (not-nil e)
     rightly-at (call ∷ calls) fit [] older event e =
@@ -125,7 +125,7 @@ module _ (x : Setup) (start : Start) where
 
     -- so as many are answered 4 as are fresh
     pub answered : (calls : List Call) → AllFit x calls → (address : ℕ) → freshContacts site start address (happened calls) ≡ fours site address (happened calls)
-    unfolding left history
+    unfolding leftBy history
     answered [] fit address = refl
     answered (call ∷ calls) fit address =
         λ j. answered calls (fit .1) address j + one (told (eventOf site (leaves calls) call) .judged) (last call calls (fit .0) (fit .1) .rightly) j

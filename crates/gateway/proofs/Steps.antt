@@ -32,7 +32,7 @@ use Rattle.tables.specs.Tables.{Tables, tablesOf}
 use Rattle.refusals.specs.Refusals.{earlyRefusal}
 use Rattle.gateway.specs.declared.Spot.{Spot}
 use Rattle.gateway.specs.Packets.{Outcome, outcomeOf, replacementOf, entered, spotOf, rulingAt, settled, ours, directionIn, isOurs, isFromPlant, byDirection}
-use Rattle.gateway.specs.Calls.{State, After, numberOr, bySizes, unlessRefused, timed, accepted, judged}
+use Rattle.gateway.specs.Calls.{State, After, numberOr, bySizes, unlessRefused, timedAt, accepted, judged}
 
 -- ---- refusals
 module _ {A : Type 0} (refused : ℕ → A) (before : State) (after : After A) where
@@ -85,7 +85,7 @@ abbrev went : State → Outcome → ℕ → After Answer
 went before l clock = record { answer = l .answer; state = record { placing = before .placing; tables = l .tables; clock = clock } }
 
 pub accepted-as : (rules : Rules) (limits : Limits) (h : Header) (direction : Direction) (time : ℕ) (before : State) {changed : Timed} {left : Outcome}
-    → changed ≡ timed (rules .point) limits (before .clock) time (before .tables)
+    → changed ≡ timedAt (rules .point) limits (before .clock) time (before .tables)
     → left ≡ byDirection rules (before .placing) h direction (tablesOf (changed .records) (before .tables .tags) (changed .counts))
     → went before left (changed .clock) ≡ accepted rules limits h direction time before
 accepted-as rules limits h direction time before {changed} e₁ e₂ =

@@ -93,13 +93,13 @@ abbrev pub timeRefusalAt : Limits → ℕ → State → ℕ
 timeRefusalAt limits time before = bySizes (timeRefusal limits) (before .tables) (before .clock) time
 
 -- what the clock does to records and counts where it goes on to a time, by the size of a point
-abbrev pub timed : ℕ → Limits → ℕ → ℕ → Tables → Timed
-timed point limits clock time tables = timePassed point (limits .dmiss) (limits .dconn) time (timedOf (tables .records) (tables .counts) clock)
+abbrev pub timedAt : ℕ → Limits → ℕ → ℕ → Tables → Timed
+timedAt point limits clock time tables = timePassed point (limits .dmiss) (limits .dconn) time (timedOf (tables .records) (tables .counts) clock)
 
 -- the tables at that time: it leaves the tags
 abbrev pub tablesAt : ℕ → Limits → ℕ → ℕ → Tables → Tables
 tablesAt point limits clock time tables =
-    tablesOf (timed point limits clock time tables .records) (tables .tags) (timed point limits clock time tables .counts)
+    tablesOf (timedAt point limits clock time tables .records) (tables .tags) (timedAt point limits clock time tables .counts)
 
 -- the state at that time
 abbrev pub onward : ℕ → Limits → ℕ → State → State
@@ -107,7 +107,7 @@ onward point limits time before =
     record {
       placing = before .placing;
       tables = tablesAt point limits (before .clock) time (before .tables);
-      clock = timed point limits (before .clock) time (before .tables) .clock;
+      clock = timedAt point limits (before .clock) time (before .tables) .clock;
     }
 
 unfoldable pub passed : Rules → Limits → ℕ → State → After Reply

@@ -69,10 +69,10 @@ module _ (site : Site) where
 
   module _ (start : Start) where
     -- the state that calls leave, and their history
-    unfoldable pub left : List Call → State
-    left [] = start .state
-    left (call ∷ calls) = stateAfter (left calls) call
+    unfoldable pub leftBy : List Call → State
+    leftBy [] = start .state
+    leftBy (call ∷ calls) = stateAfter (leftBy calls) call
 
     unfoldable pub history : List Call → List Event
     history [] = []
-    history (call ∷ calls) = eventOf (left calls) call ∷ history calls
+    history (call ∷ calls) = eventOf (leftBy calls) call ∷ history calls

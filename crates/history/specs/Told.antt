@@ -22,9 +22,9 @@ pub record Told : Type 0 where
   pub lost : List ℕ
 
 -- a call that is not refused sets the clock to its time
-abbrev pub unlessRefusedBy : ℕ → ℕ → Option ℕ
-unlessRefusedBy zero time = some time
-unlessRefusedBy (suc number) time = none
+abbrev pub timeSet : ℕ → ℕ → Option ℕ
+timeSet zero time = some time
+timeSet (suc number) time = none
 
 -- "0 not ours", and 1 to 6 for a packet of ours
 abbrev pub judgementBy : ℕ → List ℕ → Option ℕ → Option Judgement
@@ -44,9 +44,9 @@ onlyTime clock = record { clock = clock; judged = none; lost = [] }
 abbrev pub told : Event → Told
 told (judgedAt time bytes answered) =
     record {
-      clock = unlessRefusedBy (refusalTold answered) time;
+      clock = timeSet (refusalTold answered) time;
       judged = judgementBy time bytes (verdictTold answered);
       lost = oneOrNone (replacedTold answered);
     }
-told (passedAt time reply) = onlyTime (unlessRefusedBy (refusalIn reply) time)
+told (passedAt time reply) = onlyTime (timeSet (refusalIn reply) time)
 told (explainedAt time bytes why) = onlyTime none

@@ -14,14 +14,14 @@ use Rattle.tables.specs.Clock.{multiplesPassed}
 use Rattle.rulings.specs.declared.answers.Answer.{Answer}
 use Rattle.rulings.specs.Answers.{verdictTold}
 use Rattle.gateway.specs.Calls.{State}
-use Rattle.history.specs.Runs.{Call, Event, judgedAt, left}
+use Rattle.history.specs.Runs.{Call, Event, judgedAt, leftBy}
 use Rattle.history.specs.Fresh.{oursOf, Forwarded, Live, forwardedOn, Fresh}
 use Rattle.promises.specs.Demand3.{Gateway, site, first, happened}
 
 module _ (g : Gateway) where
   -- the state that calls leave, a slot's record in it, and the packets forwarded on the slot
   abbrev pub stateAfterAll : List Call → State
-  stateAfterAll calls = left (site g) (first g) calls
+  stateAfterAll calls = leftBy (site g) (first g) calls
 
   abbrev pub recordAt : List Call → ℕ → ℕ
   recordAt calls slot = getD (stateAfterAll calls .tables .records) slot 0
