@@ -175,15 +175,15 @@ uint8_t spritgrommet_pass(struct spritgrommet_placing placing, uint8_t *records,
                           int16_t *counts, size_t counts_length, uint32_t *clock, struct spritgrommet_limits limits, uint32_t time);
 
 /* `spritgrommet_gateway_judge` below, over its parts. */
-struct spritgrommet_answer spritgrommet_judge(const uint8_t *cell, size_t cell_length, const uint8_t *plant, size_t plant_length,
-                                              struct spritgrommet_placing placing, uint8_t *records, size_t records_length, uint32_t *tags,
-                                              size_t tags_length, int16_t *counts, size_t counts_length, uint32_t *clock,
+struct spritgrommet_answer spritgrommet_judge(struct spritgrommet_placing placing, const uint8_t *cell, size_t cell_length,
+                                              const uint8_t *plant, size_t plant_length, uint8_t *records, size_t records_length,
+                                              uint32_t *tags, size_t tags_length, int16_t *counts, size_t counts_length, uint32_t *clock,
                                               struct spritgrommet_limits limits, uint32_t time, const uint8_t *packet,
                                               size_t packet_length);
 
 /* `spritgrommet_gateway_judge_frame` below, over its parts. */
-struct spritgrommet_answer spritgrommet_judge_frame(const uint8_t *cell, size_t cell_length, const uint8_t *plant, size_t plant_length,
-                                                    struct spritgrommet_placing placing, uint8_t *records, size_t records_length,
+struct spritgrommet_answer spritgrommet_judge_frame(struct spritgrommet_placing placing, const uint8_t *cell, size_t cell_length,
+                                                    const uint8_t *plant, size_t plant_length, uint8_t *records, size_t records_length,
                                                     uint32_t *tags, size_t tags_length, int16_t *counts, size_t counts_length,
                                                     uint32_t *clock, struct spritgrommet_limits limits, uint32_t time, const uint8_t *frame,
                                                     size_t frame_length);
@@ -215,15 +215,15 @@ struct spritgrommet_written spritgrommet_put_record(uint8_t *room, size_t room_l
                                                     uint32_t original, const uint8_t *frame, size_t frame_length);
 
 /* `spritgrommet_gateway_why` below, over its parts, in libembed_why.a. Tables and clock are only read. */
-struct spritgrommet_reason spritgrommet_why(const uint8_t *cell, size_t cell_length, const uint8_t *plant, size_t plant_length,
-                                            struct spritgrommet_placing placing, const uint8_t *records, size_t records_length,
+struct spritgrommet_reason spritgrommet_why(struct spritgrommet_placing placing, const uint8_t *cell, size_t cell_length,
+                                            const uint8_t *plant, size_t plant_length, const uint8_t *records, size_t records_length,
                                             const uint32_t *tags, size_t tags_length, const int16_t *counts, size_t counts_length,
                                             const uint32_t *clock, struct spritgrommet_limits limits, uint32_t time, const uint8_t *packet,
                                             size_t packet_length);
 
 /* `spritgrommet_gateway_why_frame` below, over its parts, in libembed_why.a. Tables and clock are only read. */
-struct spritgrommet_reason spritgrommet_why_frame(const uint8_t *cell, size_t cell_length, const uint8_t *plant, size_t plant_length,
-                                                  struct spritgrommet_placing placing, const uint8_t *records, size_t records_length,
+struct spritgrommet_reason spritgrommet_why_frame(struct spritgrommet_placing placing, const uint8_t *cell, size_t cell_length,
+                                                  const uint8_t *plant, size_t plant_length, const uint8_t *records, size_t records_length,
                                                   const uint32_t *tags, size_t tags_length, const int16_t *counts, size_t counts_length,
                                                   const uint32_t *clock, struct spritgrommet_limits limits, uint32_t time,
                                                   const uint8_t *frame, size_t frame_length);
@@ -276,7 +276,7 @@ static inline uint8_t spritgrommet_gateway_pass(struct spritgrommet *gateway, ui
 static inline struct spritgrommet_answer spritgrommet_gateway_judge(struct spritgrommet *gateway, uint32_t time, const uint8_t *packet,
                                                                     size_t length)
 {
-    return spritgrommet_judge(gateway->cell.bytes, gateway->cell.length, gateway->plant.bytes, gateway->plant.length, gateway->placing,
+    return spritgrommet_judge(gateway->placing, gateway->cell.bytes, gateway->cell.length, gateway->plant.bytes, gateway->plant.length,
                               gateway->records, gateway->record_count, gateway->tags, gateway->entry_count, gateway->counts,
                               gateway->entry_count, &gateway->clock, gateway->settings.limits, time, packet, length);
 }
@@ -286,8 +286,8 @@ static inline struct spritgrommet_answer spritgrommet_gateway_judge(struct sprit
 static inline struct spritgrommet_answer spritgrommet_gateway_judge_frame(struct spritgrommet *gateway, uint32_t time,
                                                                           const uint8_t *frame, size_t length)
 {
-    return spritgrommet_judge_frame(gateway->cell.bytes, gateway->cell.length, gateway->plant.bytes, gateway->plant.length,
-                                    gateway->placing, gateway->records, gateway->record_count, gateway->tags, gateway->entry_count,
+    return spritgrommet_judge_frame(gateway->placing, gateway->cell.bytes, gateway->cell.length, gateway->plant.bytes,
+                                    gateway->plant.length, gateway->records, gateway->record_count, gateway->tags, gateway->entry_count,
                                     gateway->counts, gateway->entry_count, &gateway->clock, gateway->settings.limits, time, frame, length);
 }
 
@@ -298,7 +298,7 @@ static inline struct spritgrommet_answer spritgrommet_gateway_judge_frame(struct
 static inline struct spritgrommet_reason spritgrommet_gateway_why(const struct spritgrommet *gateway, uint32_t time,
                                                                   const uint8_t *packet, size_t length)
 {
-    return spritgrommet_why(gateway->cell.bytes, gateway->cell.length, gateway->plant.bytes, gateway->plant.length, gateway->placing,
+    return spritgrommet_why(gateway->placing, gateway->cell.bytes, gateway->cell.length, gateway->plant.bytes, gateway->plant.length,
                             gateway->records, gateway->record_count, gateway->tags, gateway->entry_count, gateway->counts,
                             gateway->entry_count, &gateway->clock, gateway->settings.limits, time, packet, length);
 }
@@ -307,7 +307,7 @@ static inline struct spritgrommet_reason spritgrommet_gateway_why(const struct s
 static inline struct spritgrommet_reason spritgrommet_gateway_why_frame(const struct spritgrommet *gateway, uint32_t time,
                                                                         const uint8_t *frame, size_t length)
 {
-    return spritgrommet_why_frame(gateway->cell.bytes, gateway->cell.length, gateway->plant.bytes, gateway->plant.length, gateway->placing,
+    return spritgrommet_why_frame(gateway->placing, gateway->cell.bytes, gateway->cell.length, gateway->plant.bytes, gateway->plant.length,
                                   gateway->records, gateway->record_count, gateway->tags, gateway->entry_count, gateway->counts,
                                   gateway->entry_count, &gateway->clock, gateway->settings.limits, time, frame, length);
 }

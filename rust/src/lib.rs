@@ -273,27 +273,27 @@ impl Gateway {
     /// Judges a packet, from its IPv4 header on, that comes at a time. Refused by 3 to 6.
     pub fn judge(&mut self, time: u32, packet: &[u8]) -> Result<Answer, Refusal> {
         let Gateway { limits, placing, cell, plant, records, tags, counts, clock } = self;
-        answer_of(raw::judge(cell, plant, *placing, records, tags, counts, clock, *limits, time, packet))
+        answer_of(raw::judge(*placing, cell, plant, records, tags, counts, clock, *limits, time, packet))
     }
 
     /// Judges what an Ethernet frame that comes at a time carries. One under 14 bytes is refused by 5, and an EtherType other than 0x0800
     /// gets verdict 0; neither reaches the gateway.
     pub fn judge_frame(&mut self, time: u32, frame: &[u8]) -> Result<Answer, Refusal> {
         let Gateway { limits, placing, cell, plant, records, tags, counts, clock } = self;
-        answer_of(raw::judge_frame(cell, plant, *placing, records, tags, counts, clock, *limits, time, frame))
+        answer_of(raw::judge_frame(*placing, cell, plant, records, tags, counts, clock, *limits, time, frame))
     }
 
     /// Why a packet, from its IPv4 header on, that comes at a time is dropped, if it is. To be asked before the packet is judged: the
     /// answer is about the tables as they would stand at that second. Refused exactly as the packet would be; nothing is changed.
     pub fn why(&self, time: u32, packet: &[u8]) -> Result<Reason, Refusal> {
         let Gateway { limits, placing, cell, plant, records, tags, counts, clock } = self;
-        reason_of(raw::why(cell, plant, *placing, records, tags, counts, clock, *limits, time, packet))
+        reason_of(raw::why(*placing, cell, plant, records, tags, counts, clock, *limits, time, packet))
     }
 
     /// Why what an Ethernet frame that comes at a time carries is dropped, if it is: as for a packet, with the refusal or the verdict that
     /// `judge_frame` would answer.
     pub fn why_frame(&self, time: u32, frame: &[u8]) -> Result<Reason, Refusal> {
         let Gateway { limits, placing, cell, plant, records, tags, counts, clock } = self;
-        reason_of(raw::why_frame(cell, plant, *placing, records, tags, counts, clock, *limits, time, frame))
+        reason_of(raw::why_frame(*placing, cell, plant, records, tags, counts, clock, *limits, time, frame))
     }
 }

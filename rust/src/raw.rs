@@ -175,11 +175,11 @@ extern "C" {
         time: u32,
     ) -> u8;
     pub fn spritgrommet_judge(
+        placing: Placing,
         cell: *const u8,
         cell_length: usize,
         plant: *const u8,
         plant_length: usize,
-        placing: Placing,
         records: *mut u8,
         records_length: usize,
         tags: *mut u32,
@@ -193,11 +193,11 @@ extern "C" {
         packet_length: usize,
     ) -> PlainAnswer;
     pub fn spritgrommet_judge_frame(
+        placing: Placing,
         cell: *const u8,
         cell_length: usize,
         plant: *const u8,
         plant_length: usize,
-        placing: Placing,
         records: *mut u8,
         records_length: usize,
         tags: *mut u32,
@@ -234,11 +234,11 @@ extern "C" {
         frame_length: usize,
     ) -> PlainWritten;
     pub fn spritgrommet_why(
+        placing: Placing,
         cell: *const u8,
         cell_length: usize,
         plant: *const u8,
         plant_length: usize,
-        placing: Placing,
         records: *const u8,
         records_length: usize,
         tags: *const u32,
@@ -252,11 +252,11 @@ extern "C" {
         packet_length: usize,
     ) -> PlainReason;
     pub fn spritgrommet_why_frame(
+        placing: Placing,
         cell: *const u8,
         cell_length: usize,
         plant: *const u8,
         plant_length: usize,
-        placing: Placing,
         records: *const u8,
         records_length: usize,
         tags: *const u32,
@@ -335,9 +335,9 @@ pub fn pass(
 /// Judges a packet, from its IPv4 header on, that comes at a time. The answer is the refusal, or the verdict with what belongs to it.
 #[inline]
 pub fn judge(
+    placing: Placing,
     cell: &[u8],
     plant: &[u8],
-    placing: Placing,
     records: &mut [u8],
     tags: &mut [u32],
     counts: &mut [i16],
@@ -348,11 +348,11 @@ pub fn judge(
 ) -> PlainAnswer {
     unsafe {
         spritgrommet_judge(
+            placing,
             cell.as_ptr(),
             cell.len(),
             plant.as_ptr(),
             plant.len(),
-            placing,
             records.as_mut_ptr(),
             records.len(),
             tags.as_mut_ptr(),
@@ -372,9 +372,9 @@ pub fn judge(
 /// by `frames::judge`, so that the archive has the judge once, in the function that is called for every packet.
 #[inline]
 pub fn judge_frame(
+    placing: Placing,
     cell: &[u8],
     plant: &[u8],
-    placing: Placing,
     records: &mut [u8],
     tags: &mut [u32],
     counts: &mut [i16],
@@ -385,11 +385,11 @@ pub fn judge_frame(
 ) -> PlainAnswer {
     unsafe {
         spritgrommet_judge_frame(
+            placing,
             cell.as_ptr(),
             cell.len(),
             plant.as_ptr(),
             plant.len(),
-            placing,
             records.as_mut_ptr(),
             records.len(),
             tags.as_mut_ptr(),
@@ -458,9 +458,9 @@ pub fn put_record(room: &mut [u8], at: usize, seconds: u32, microseconds: u32, o
 /// Why a packet, from its IPv4 header on, that comes at a time is dropped. Tables and clock are only read.
 #[inline]
 pub fn why(
+    placing: Placing,
     cell: &[u8],
     plant: &[u8],
-    placing: Placing,
     records: &[u8],
     tags: &[u32],
     counts: &[i16],
@@ -471,11 +471,11 @@ pub fn why(
 ) -> PlainReason {
     unsafe {
         spritgrommet_why(
+            placing,
             cell.as_ptr(),
             cell.len(),
             plant.as_ptr(),
             plant.len(),
-            placing,
             records.as_ptr(),
             records.len(),
             tags.as_ptr(),
@@ -494,9 +494,9 @@ pub fn why(
 /// Why what an Ethernet frame that comes at a time carries is dropped. Tables and clock are only read.
 #[inline]
 pub fn why_frame(
+    placing: Placing,
     cell: &[u8],
     plant: &[u8],
-    placing: Placing,
     records: &[u8],
     tags: &[u32],
     counts: &[i16],
@@ -507,11 +507,11 @@ pub fn why_frame(
 ) -> PlainReason {
     unsafe {
         spritgrommet_why_frame(
+            placing,
             cell.as_ptr(),
             cell.len(),
             plant.as_ptr(),
             plant.len(),
-            placing,
             records.as_ptr(),
             records.len(),
             tags.as_ptr(),

@@ -51,7 +51,7 @@ impl Judge for Caller {
     #[inline]
     fn judge(&mut self, time: u32, packet: &[u8]) -> PlainAnswer {
         let Caller { settings, placing, cell, plant, records, tags, counts, clock } = self;
-        raw::judge(cell, plant, *placing, records, tags, counts, clock, settings.limits, time, packet)
+        raw::judge(*placing, cell, plant, records, tags, counts, clock, settings.limits, time, packet)
     }
 
     fn told(answer: PlainAnswer) -> Told {

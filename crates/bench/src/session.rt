@@ -66,9 +66,9 @@ fn judge(
     let packet = packet_of(turn);
     let set = Settings::factory();
     gateway::judge(
+        placing,
         &CELL_LIST,
         &PLANT_LIST,
-        placing,
         records,
         tags,
         counts,

@@ -153,9 +153,9 @@ fn finish_with(call: usize, trial: Trial, cell: &[u8], plant: &[u8], packet: &[u
     let lent_counts = &mut counts[0..counts_end];
     match call {
         JUDGE => lines::answer(gateway::judge(
+            placing,
             cell,
             plant,
-            placing,
             lent,
             lent_tags,
             lent_counts,

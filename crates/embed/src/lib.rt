@@ -75,9 +75,9 @@ pub extern "C" fn spritgrommet_pass(
 // Judges a packet, from its IPv4 header on, that comes at a time. The answer is the refusal, or the verdict with what belongs to it.
 #[no_mangle]
 pub extern "C" fn spritgrommet_judge(
+    placing: Placing,
     cell: &[u8],
     plant: &[u8],
-    placing: Placing,
     records: &mut [u8],
     tags: &mut [u32],
     counts: &mut [i16],
@@ -91,9 +91,9 @@ pub extern "C" fn spritgrommet_judge(
         (judged (rulesOf limits) limits (now (cell .entry)) (now (plant .entry)) time (now (packet .entry)) (lent placing records tags counts clock)) ⌝ }
 {
     let answer = gateway::judge(
+        placing,
         cell,
         plant,
-        placing,
         records,
         tags,
         counts,
@@ -109,9 +109,9 @@ pub extern "C" fn spritgrommet_judge(
 // `frames::judge`, so that the archive has the judge once, in the function that is called for every packet.
 #[no_mangle]
 pub extern "C" fn spritgrommet_judge_frame(
+    placing: Placing,
     cell: &[u8],
     plant: &[u8],
-    placing: Placing,
     records: &mut [u8],
     tags: &mut [u32],
     counts: &mut [i16],
@@ -129,9 +129,9 @@ pub extern "C" fn spritgrommet_judge_frame(
         Inside::Packet => {
             let carried = &frame[14..];
             spritgrommet_judge(
+                placing,
                 cell,
                 plant,
-                placing,
                 records,
                 tags,
                 counts,

@@ -16,9 +16,9 @@ use settings::Limits;
 // Why a packet, from its IPv4 header on, that comes at a time is dropped. Tables and clock are only read.
 #[no_mangle]
 pub extern "C" fn spritgrommet_why<'a>(
+    placing: Placing,
     cell: &'a [u8],
     plant: &'a [u8],
-    placing: Placing,
     records: &[u8],
     tags: &[u32],
     counts: &[i16],
@@ -31,9 +31,9 @@ pub extern "C" fn spritgrommet_why<'a>(
         (whyOf (rulesOf limits) limits (now (cell .entry)) (now (plant .entry)) time (now (packet .entry)) (lent placing records tags counts clock)) ⌝ }
 {
     let reason = gateway::why(
+        placing,
         cell,
         plant,
-        placing,
         records,
         tags,
         counts,
@@ -48,9 +48,9 @@ pub extern "C" fn spritgrommet_why<'a>(
 // Why what an Ethernet frame that comes at a time carries is dropped. Tables and clock are only read.
 #[no_mangle]
 pub extern "C" fn spritgrommet_why_frame<'a>(
+    placing: Placing,
     cell: &'a [u8],
     plant: &'a [u8],
-    placing: Placing,
     records: &[u8],
     tags: &[u32],
     counts: &[i16],
@@ -63,9 +63,9 @@ pub extern "C" fn spritgrommet_why_frame<'a>(
         (frameExplained (rulesOf limits) limits (now (cell .entry)) (now (plant .entry)) time (now (frame .entry)) (lent placing records tags counts clock)) ⌝ }
 {
     let told = frames::why(
+        placing,
         cell,
         plant,
-        placing,
         records,
         tags,
         counts,

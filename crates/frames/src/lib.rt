@@ -32,9 +32,9 @@ pub fn what_is_in(frame: &[u8]) -> Inside
 // Judges the packet of a frame that comes at a time. Answers refusal 5 for a frame that is too short, verdict 0 for one that carries
 // something else than IPv4, and else what the gateway answers.
 pub fn judge(
+    placing: Placing,
     cell: &[u8],
     plant: &[u8],
-    placing: Placing,
     records: &mut [u8],
     tags: &mut [u32],
     counts: &mut [i16],
@@ -51,9 +51,9 @@ pub fn judge(
         Inside::Packet => {
             let packet = &frame[14..];
             gateway::judge(
+                placing,
                 cell,
                 plant,
-                placing,
                 records,
                 tags,
                 counts,
@@ -70,9 +70,9 @@ pub fn judge(
 // Why the packet of a frame that comes at a time is dropped. Answers refusal 5 for a frame that is too short, that it is not ours for one that
 // carries something else than IPv4, and else what the gateway answers.
 pub fn why<'a>(
+    placing: Placing,
     cell: &'a [u8],
     plant: &'a [u8],
-    placing: Placing,
     records: &[u8],
     tags: &[u32],
     counts: &[i16],
@@ -88,9 +88,9 @@ pub fn why<'a>(
         Inside::Packet => {
             let packet = &frame[14..];
             gateway::why(
+                placing,
                 cell,
                 plant,
-                placing,
                 records,
                 tags,
                 counts,

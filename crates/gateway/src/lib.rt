@@ -317,9 +317,9 @@ fn accept(
 // Judges a packet that comes at a time, and brings tables and clock up to it. Answers a refusal, 1 to 6, and then nothing is changed, or
 // the verdict with the count and the replaced address.
 pub fn judge(
+    placing: Placing,
     cell: &[u8],
     plant: &[u8],
-    placing: Placing,
     records: &mut [u8],
     tags: &mut [u32],
     counts: &mut [i16],
@@ -517,9 +517,9 @@ fn explain_by_direction<'a>(
 // lists that decided, the count and T. Answers the refusal that the packet would get, or the verdict alone where it is not dropped. Tables,
 // clock and lists are only read, and no table is swept or copied.
 pub fn why<'a>(
+    placing: Placing,
     cell: &'a [u8],
     plant: &'a [u8],
-    placing: Placing,
     records: &[u8],
     tags: &[u32],
     counts: &[i16],

@@ -350,7 +350,7 @@ gateway-cold-start-one κs a x y s t p q = same p q
 pub gateway-pass-one : (κs : _) (a : _) → One (gateway-pass.Learnt κs a) (λ x s. left (a .0) (both (s .1 .0)) (both (s .1 .1 .0)) (both (s .1 .1 .1 .0)) (both (s .1 .1 .1 .1 .0)) x)
 gateway-pass-one κs a x y s t p q = same p q
 
-pub gateway-judge-one : (κs : _) (a : _) → One (gateway-judge.Learnt κs a) (λ x s. left (a .1 .1 .0) (both (s .1 .1 .1 .0)) (both (s .1 .1 .1 .1 .0)) (both (s .1 .1 .1 .1 .1 .0)) (both (s .1 .1 .1 .1 .1 .1 .0)) x)
+pub gateway-judge-one : (κs : _) (a : _) → One (gateway-judge.Learnt κs a) (λ x s. left (a .0) (both (s .1 .1 .1 .0)) (both (s .1 .1 .1 .1 .0)) (both (s .1 .1 .1 .1 .1 .0)) (both (s .1 .1 .1 .1 .1 .1 .0)) x)
 gateway-judge-one κs a x y s t p q = same p q
 
 pub gateway-why-one : (κs : _) (a : _) → One (gateway-why.Learnt κs a) (λ x s. x)
@@ -368,7 +368,7 @@ tally-tally-with-one κs a x y s t p q = same p q
 pub frames-what-is-in-one : (κs : _) (a : _) → One (frames-what-is-in.Learnt κs a) (λ x s. x)
 frames-what-is-in-one κs a x y s t p q = same p q
 
-pub frames-judge-one : (κs : _) (a : _) → One (frames-judge.Learnt κs a) (λ x s. left (a .1 .1 .0) (both (s .1 .1 .1 .0)) (both (s .1 .1 .1 .1 .0)) (both (s .1 .1 .1 .1 .1 .0)) (both (s .1 .1 .1 .1 .1 .1 .0)) x)
+pub frames-judge-one : (κs : _) (a : _) → One (frames-judge.Learnt κs a) (λ x s. left (a .0) (both (s .1 .1 .1 .0)) (both (s .1 .1 .1 .1 .0)) (both (s .1 .1 .1 .1 .1 .0)) (both (s .1 .1 .1 .1 .1 .1 .0)) x)
 frames-judge-one κs a x y s t p q = same p q
 
 pub frames-why-one : (κs : _) (a : _) → One (frames-why.Learnt κs a) (λ x s. x)
@@ -458,10 +458,10 @@ embed-spritgrommet-cold-start-one κs a x y s t p q = same p q
 pub embed-spritgrommet-pass-one : (κs : _) (a : _) → One (embed-spritgrommet-pass.Learnt κs a) (λ x s. left (a .0) (both (s .1 .0)) (both (s .1 .1 .0)) (both (s .1 .1 .1 .0)) (both (s .1 .1 .1 .1 .0)) x)
 embed-spritgrommet-pass-one κs a x y s t p q = same p q
 
-pub embed-spritgrommet-judge-one : (κs : _) (a : _) → One (embed-spritgrommet-judge.Learnt κs a) (λ x s. left (a .1 .1 .0) (both (s .1 .1 .1 .0)) (both (s .1 .1 .1 .1 .0)) (both (s .1 .1 .1 .1 .1 .0)) (both (s .1 .1 .1 .1 .1 .1 .0)) x)
+pub embed-spritgrommet-judge-one : (κs : _) (a : _) → One (embed-spritgrommet-judge.Learnt κs a) (λ x s. left (a .0) (both (s .1 .1 .1 .0)) (both (s .1 .1 .1 .1 .0)) (both (s .1 .1 .1 .1 .1 .0)) (both (s .1 .1 .1 .1 .1 .1 .0)) x)
 embed-spritgrommet-judge-one κs a x y s t p q = same p q
 
-pub embed-spritgrommet-judge-frame-one : (κs : _) (a : _) → One (embed-spritgrommet-judge-frame.Learnt κs a) (λ x s. left (a .1 .1 .0) (both (s .1 .1 .1 .0)) (both (s .1 .1 .1 .1 .0)) (both (s .1 .1 .1 .1 .1 .0)) (both (s .1 .1 .1 .1 .1 .1 .0)) x)
+pub embed-spritgrommet-judge-frame-one : (κs : _) (a : _) → One (embed-spritgrommet-judge-frame.Learnt κs a) (λ x s. left (a .0) (both (s .1 .1 .1 .0)) (both (s .1 .1 .1 .1 .0)) (both (s .1 .1 .1 .1 .1 .0)) (both (s .1 .1 .1 .1 .1 .1 .0)) x)
 embed-spritgrommet-judge-frame-one κs a x y s t p q = same p q
 
 pub embed-spritgrommet-winner-one : (κs : _) (a : _) → One (embed-spritgrommet-winner.Learnt κs a) (λ x s. x)

@@ -94,9 +94,9 @@ fn ask(
 {
     if asks {
         return Asked::Why(frames::why(
+            program_placing(),
             &CELL,
             &PLANT,
-            program_placing(),
             records,
             tags,
             counts,
@@ -131,9 +131,9 @@ fn judge_record(
     let frame = &bytes[from..end];
     let asked = ask(asks, records, tags, counts, clock, time, frame);
     let answer = frames::judge(
+        program_placing(),
         &CELL,
         &PLANT,
-        program_placing(),
         records,
         tags,
         counts,

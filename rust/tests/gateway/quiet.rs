@@ -77,7 +77,7 @@ impl Records {
         // SAFETY: as above; no side list has an entry.
         let answer = unsafe {
             raw::spritgrommet_judge(
-                [].as_ptr(), 0, [].as_ptr(), 0, placing(settings), self.start, self.length, tags.as_mut_ptr(), 4,
+                placing(settings), [].as_ptr(), 0, [].as_ptr(), 0, self.start, self.length, tags.as_mut_ptr(), 4,
                 counts.as_mut_ptr(), 4, &mut clock, settings.limits, new, packet.as_ptr(), packet.len(),
             )
         };

@@ -39,22 +39,22 @@ struct Lent {
 impl Lent {
     fn why(&self, time: u32, packet: &[u8]) -> PlainReason {
         let Lent { limits, placing, cell, plant, records, tags, counts, clock } = self;
-        raw::why(cell, plant, *placing, records, tags, counts, clock, *limits, time, packet)
+        raw::why(*placing, cell, plant, records, tags, counts, clock, *limits, time, packet)
     }
 
     fn why_frame(&self, time: u32, frame: &[u8]) -> PlainReason {
         let Lent { limits, placing, cell, plant, records, tags, counts, clock } = self;
-        raw::why_frame(cell, plant, *placing, records, tags, counts, clock, *limits, time, frame)
+        raw::why_frame(*placing, cell, plant, records, tags, counts, clock, *limits, time, frame)
     }
 
     fn judge(&mut self, time: u32, packet: &[u8]) -> PlainAnswer {
         let Lent { limits, placing, cell, plant, records, tags, counts, clock } = self;
-        raw::judge(cell, plant, *placing, records, tags, counts, clock, *limits, time, packet)
+        raw::judge(*placing, cell, plant, records, tags, counts, clock, *limits, time, packet)
     }
 
     fn judge_frame(&mut self, time: u32, frame: &[u8]) -> PlainAnswer {
         let Lent { limits, placing, cell, plant, records, tags, counts, clock } = self;
-        raw::judge_frame(cell, plant, *placing, records, tags, counts, clock, *limits, time, frame)
+        raw::judge_frame(*placing, cell, plant, records, tags, counts, clock, *limits, time, frame)
     }
 
     /// A copy, after a time has passed.
@@ -644,7 +644,7 @@ fn nothing_is_stored_to() {
             // SAFETY: each length is its table's, and each table starts at a multiple of its elements' size.
             let reason = unsafe {
                 raw::spritgrommet_why(
-                    lent.cell.as_ptr(), lent.cell.len(), lent.plant.as_ptr(), lent.plant.len(), lent.placing,
+                    lent.placing, lent.cell.as_ptr(), lent.cell.len(), lent.plant.as_ptr(), lent.plant.len(),
                     records.as_ptr(), records.len(), tags.as_ptr().cast(), lent.tags.len(), counts.as_ptr().cast(),
                     lent.counts.len(), clock.as_ptr().cast(), lent.limits, time, packet.as_ptr(), packet.len(),
                 )

@@ -8,14 +8,14 @@ use borrow.Author.Needs.{needs}
 use Rattle.replay.proofs.ask.Statement.{statement}
 use Rattle.replay.proofs.ask.Tie as tie
 
+program-placing-requires : tie.Need-program-placing-requires
+program-placing-requires c κs = search needs
+
 slice-aggregate-why : tie.Need-slice-aggregate-why
 slice-aggregate-why c = search needs
 
 slice-aggregate-why-2 : tie.Need-slice-aggregate-why-2
 slice-aggregate-why-2 c = search needs
-
-program-placing-requires : tie.Need-program-placing-requires
-program-placing-requires c κs = search needs
 
 program-limits-requires : tie.Need-program-limits-requires
 program-limits-requires c κs = search needs
@@ -26,8 +26,8 @@ why-requires c κs = search needs
 returns : tie.Need-returns
 returns c =
     let l = c .before in
-    let p = l .before in
-    let i = p .before .before .before in
+    let p = l .before .before .before in
+    let i = p .before in
     let s = i .before .before .before .before in
     rw (i .if1 .taken)
     (is-asked (s .args .time) (now (s .args .frame))
@@ -44,9 +44,9 @@ pub ask-spec : {M : Type 1} → statement M
 ask-spec =
     tie.close
     (tie.spec
+    program-placing-requires
     slice-aggregate-why
     slice-aggregate-why-2
-    program-placing-requires
     program-limits-requires
     why-requires
     returns

@@ -20,14 +20,14 @@ part-frame-end c = search needs
 ask-requires : tie.Need-ask-requires
 ask-requires c κs = search needs
 
+program-placing-requires : tie.Need-program-placing-requires
+program-placing-requires c κs = search needs
+
 slice-aggregate-judge : tie.Need-slice-aggregate-judge
 slice-aggregate-judge c = search needs
 
 slice-aggregate-judge-2 : tie.Need-slice-aggregate-judge-2
 slice-aggregate-judge-2 c = search needs
-
-program-placing-requires : tie.Need-program-placing-requires
-program-placing-requires c κs = search needs
 
 program-limits-requires : tie.Need-program-limits-requires
 program-limits-requires c κs = search needs
@@ -48,8 +48,8 @@ returns : tie.Need-returns
 returns c =
     let j = c .before .before .before .before .before in
     let l = j .before in
-    let p = l .before .before .before .before .before in
-    let a = p .before .before .before in
+    let p = l .before .before .before .before .before .before .before in
+    let a = p .before in
     let f = a .before .before .before .before .before .before .before .before .before .before .before in
     let s = f .before .before .before .before .before .before .before .before in
     judged-as (s .args .asks) (s .args .is-first) _ (s .args .read) _ _ _ _ _ (f .start-first .ensures) (a .ask .ensures)
@@ -64,9 +64,9 @@ judge-record-spec =
     part-frame-start
     part-frame-end
     ask-requires
+    program-placing-requires
     slice-aggregate-judge
     slice-aggregate-judge-2
-    program-placing-requires
     program-limits-requires
     judge-requires
     same-length
