@@ -2,8 +2,8 @@
  * packet is dropped (`spritgrommet_why` and what is made of it) also links libembed_why.a beside it, by `rt staticlib embed_why`.
  *
  * A gateway stands between a cell, which may be infected, and the plant. It judges each packet, and stops a machine of the cell that
- * keeps trying strangers. The caller owns all memory: settings, two side lists, the tables and the clock. A call that is refused changes
- * none of it. Nothing is allocated, and no state is kept between calls: memory that is only read may be shared, and memory that a call
+ * keeps trying strangers. The caller owns all memory: settings, two side lists, the tables, the clock, and what a start answers for the
+ * later calls (`struct spritgrommet_placing`). A call that is refused changes none of it. Nothing is allocated, and no state is kept between calls: memory that is only read may be shared, and memory that a call
  * writes may be touched by no other thread meanwhile.
  *
  * What each call answers is proved for every input of the types below. What the prover cannot see is the caller's side of the boundary:
@@ -49,7 +49,9 @@ extern "C" {
 
 /* ---- the structs that cross. What stands here and in the next part tools/boundary declares; only the comments are written by hand ---- */
 
-/* The settings that have a range, which every call of a gateway takes. */
+/* The settings that have a range, which every call of a gateway takes; outside it the call is refused by 1. Each call goes by those that it
+ * is given. What is promised of a run (docs/PROMISES.md, demand 3) is promised where limits, side lists and sizes stay as they are from its
+ * start on. */
 struct spritgrommet_limits {
     uint16_t threshold; /* T, 1 to 255: an address is blocked when its count is at least this */
     int16_t floor;      /* Cmin, -1,000 to 0: no credit lowers a count below this */
@@ -69,10 +71,11 @@ struct spritgrommet_placing {
     uint32_t keys[8]; /* the round keys of the address permutation */
 };
 
-/* What a start answers. */
+/* What a start answers. Where it is refused there is no placing, and its numbers are 0: tables and clock are as they were, and belong to the
+ * one before. */
 struct spritgrommet_started {
     uint8_t refusal;                     /* 0, or the number of the refusal */
-    struct spritgrommet_placing placing; /* on which the gateway runs, where it is not refused: of no use where it is */
+    struct spritgrommet_placing placing; /* the settings' keys, on which the gateway runs from then on */
 };
 
 /* The answer to a packet. A number that it does not have is 0. */
@@ -165,7 +168,8 @@ struct spritgrommet_reason {
  * sets it; bin/verdicts, bin/forwarded and bin/why have 10. */
 struct spritgrommet_settings spritgrommet_factory(void);
 
-/* `spritgrommet_gateway_cold_start` below, over its parts. Later calls take the placing that it answers. */
+/* `spritgrommet_gateway_cold_start` below, over its parts. Where it answers 0 the later calls take the placing that it answers; where it is
+ * refused they go on with the one before. */
 struct spritgrommet_started spritgrommet_cold_start(struct spritgrommet_settings settings, uint8_t *records, size_t records_length,
                                                     uint32_t *tags, size_t tags_length, int16_t *counts, size_t counts_length,
                                                     uint32_t *clock, uint32_t time);
@@ -253,7 +257,8 @@ struct spritgrommet {
     struct spritgrommet_placing placing; /* what places packets in the tables: written by a start that is not refused, and by no one else */
 };
 
-/* Starts cold: 0 to every record and tag, -32,768 to every count, and the clock at the time. Answers 0, 1 or 2. */
+/* Starts cold: 0 to every record and tag, -32,768 to every count, the clock at the time, and the settings' keys as what places packets.
+ * Answers 0, 1 or 2. It has to come first, and to answer 0: no call can tell a gateway that never started from one that did. */
 static inline uint8_t spritgrommet_gateway_cold_start(struct spritgrommet *gateway, uint32_t time)
 {
     const struct spritgrommet_started started =

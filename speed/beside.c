@@ -55,7 +55,10 @@ static void pass_minutes(const struct archive *by, uint8_t *records, size_t leng
     uint32_t tags[4] = {0};
     int16_t counts[4] = {-32768, -32768, -32768, -32768};
     for (int minute = 0; minute < minutes; minute++)
-        if (by->pass(placing, records, length, tags, 4, counts, 4, clock, by->limits, *clock + 60) != 0) exit(1);
+        if (by->pass(placing, records, length, tags, 4, counts, 4, clock, by->limits, *clock + 60) != 0) {
+            fprintf(stderr, "beside: %s refuses a boundary: is it of this header?\n", by->name);
+            exit(1);
+        }
 }
 
 /* Nanoseconds a record: of warm ones over all boundaries, of cold ones over each by itself. */

@@ -13,35 +13,41 @@ use std::fmt;
 pub use capture::{Capture, CaptureWriter, Record};
 pub use raw::{decrypt, encrypt, Entry, Limits, Settings, Tally};
 
-/// A gateway with a setting outside its range, document 01's, is refused by 1. Settings are made from the factory's, by what differs:
+/// A setting outside its range (`Limits`) is refused by 1. Settings are made from the factory's, by what differs:
 /// `Settings::factory().with_threshold(10)`.
 impl Settings {
     /// The factory settings: T 5, Cmin -20, Dmiss 60, Dconn 10, keys all zero.
+    #[must_use]
     pub fn factory() -> Settings {
         raw::factory()
     }
 
     /// The same with other round keys.
+    #[must_use]
     pub fn with_keys(self, keys: [u32; 8]) -> Settings {
         Settings { keys, ..self }
     }
 
     /// The same with another T.
+    #[must_use]
     pub fn with_threshold(self, threshold: u16) -> Settings {
         Settings { limits: Limits { threshold, ..self.limits }, ..self }
     }
 
     /// The same with another Cmin.
+    #[must_use]
     pub fn with_floor(self, floor: i16) -> Settings {
         Settings { limits: Limits { floor, ..self.limits }, ..self }
     }
 
     /// The same with another Dmiss.
+    #[must_use]
     pub fn with_dmiss(self, dmiss: u16) -> Settings {
         Settings { limits: Limits { dmiss, ..self.limits }, ..self }
     }
 
     /// The same with another Dconn.
+    #[must_use]
     pub fn with_dconn(self, dconn: u8) -> Settings {
         Settings { limits: Limits { dconn, ..self.limits }, ..self }
     }
@@ -240,7 +246,8 @@ pub struct Gateway {
 
 impl Gateway {
     /// Starts cold at a time, with so many records and lines. Side lists have entries of five bytes: an address, most significant byte
-    /// first, then a prefix length. Refused by 1 and 2; a bad list is refused by 3 with each packet.
+    /// first, then a prefix length. Refused by 1 and 2; a bad list is refused by 3 with each packet. The gateway runs on the keys of these
+    /// settings from then on. A refused start makes no gateway.
     pub fn cold_start(
         settings: Settings,
         cell: &[u8],

@@ -3,22 +3,21 @@
 #![allow(clippy::too_many_arguments)]
 
 /// The settings that have a range, which every call of a gateway takes. The type of each number is wider than its range, so that a value
-/// outside it can be given, and is refused. Laid out as C does, for the programs that link the gateway.
+/// outside it can be given, and is refused.
 #[repr(C)]
 #[derive(Clone, Copy, Debug, PartialEq, Eq)]
 pub struct Limits {
-    /// T: a cell address is blocked when its count is at least this.
+    /// T, 1 to 255: a cell address is blocked when its count is at least this.
     pub threshold: u16,
-    /// Cmin: no credit lowers a count below this.
+    /// Cmin, -1,000 to 0: no credit lowers a count below this.
     pub floor: i16,
-    /// Dmiss: at each multiple of so many seconds every positive count falls by one.
+    /// Dmiss, 1 to 3,600: at each multiple of so many seconds every positive count falls by one.
     pub dmiss: u16,
-    /// Dconn: a connection record lives over so many minute boundaries.
+    /// Dconn, 1 to 62: a connection record lives over so many minute boundaries.
     pub dconn: u8,
 }
 
 /// All settings of a gateway. The keys are free, and a cold start alone takes them: from then on the gateway runs on those of its state.
-/// They come first, so that a copy of them is an aligned one.
 #[repr(C)]
 #[derive(Clone, Copy, Debug, PartialEq, Eq)]
 pub struct Settings {
@@ -27,8 +26,7 @@ pub struct Settings {
     pub limits: Limits,
 }
 
-/// What places packets in a gateway's tables: it is part of the gateway's state, a start sets it, and no other call changes it. Laid out as
-/// C does, for the programs that link the gateway.
+/// What places packets in a gateway's tables: it is part of the gateway's state, a start sets it, and no other call changes it.
 #[repr(C)]
 #[derive(Clone, Copy, Debug, PartialEq, Eq)]
 pub struct Placing {
@@ -36,8 +34,7 @@ pub struct Placing {
     pub keys: [u32; 8],
 }
 
-/// The answer to a start: the number of its refusal, or 0; and what places packets in the tables, on which the gateway runs where it is not
-/// refused.
+/// The answer to a start: the number of its refusal, or 0; and the settings' keys, for the calls that follow to take where it is 0.
 #[repr(C)]
 #[derive(Clone, Copy, Debug, PartialEq, Eq)]
 pub struct PlainStarted {
@@ -368,8 +365,7 @@ pub fn judge(
     }
 }
 
-/// Judges what an Ethernet frame that comes at a time carries. The answer is as for a packet. It goes on to `spritgrommet_judge`, and not
-/// by `frames::judge`, so that the archive has the judge once, in the function that is called for every packet.
+/// Judges what an Ethernet frame that comes at a time carries. The answer is as for a packet.
 #[inline]
 pub fn judge_frame(
     placing: Placing,

@@ -18,7 +18,7 @@ const MINUTES: u32 = 16;
 /// The bytes that memory takes at a time, and the records that a plain loop stores to or leaves alone together.
 const LINE: usize = 64;
 const PART: usize = 128;
-/// Whose limits and placing are lent. Made once, so that no boundary pays for it.
+/// Whose limits and placing are lent. Made once; a round pays for one look at it, in all programs alike.
 static CALLER: LazyLock<Caller> =
     LazyLock::new(|| Caller::new(ours::settings().with_dmiss(3_600).with_dconn(62), &[], &[], 16, 1));
 const NOTES: &str = "\

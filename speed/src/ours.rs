@@ -6,7 +6,7 @@ use spritgrommet::raw::{self, Placing, PlainAnswer};
 pub use spritgrommet::raw::pass;
 pub use spritgrommet::{encrypt, Limits, Settings};
 
-/// With none, some additions would cost nothing.
+/// Keys that are not zero: with zeros some additions would cost nothing.
 pub const KEYS: [u32; 8] =
     [0x243f_6a88, 0x85a3_08d3, 0x1319_8a2e, 0x0370_7344, 0xa409_3822, 0x299f_31d0, 0x082e_fa98, 0xec4e_6c89];
 

@@ -10,8 +10,6 @@ use settings::Settings;
 
 const CLOCK: u32 = 100;
 
-const KEYS: [u32; 8] = [0; 8];
-
 // Of tables, side lists and packet a trial has the length that is lent; of each list the prefix length of its first entry too.
 pub struct Trial {
     pub limits: Limits,
@@ -122,6 +120,13 @@ fn print_kept(kept: bool) {
     }
 }
 
+// What places packets after a start with the factory's keys.
+fn placing() -> Placing {
+    let set = Settings::factory();
+    let keys = set.keys;
+    Placing { keys }
+}
+
 // Starts cold with these limits.
 fn start(
     limits: Limits,
@@ -131,7 +136,8 @@ fn start(
     clock: &mut u32,
     time: u32,
 ) -> Reply {
-    let set = Settings { keys: KEYS, limits };
+    let mut set = Settings::factory();
+    set.limits = limits;
     let started = gateway::cold_start(set, records, tags, counts, clock, time);
     started.reply
 }
@@ -146,7 +152,7 @@ fn finish_with(call: usize, trial: Trial, cell: &[u8], plant: &[u8], packet: &[u
     let tags_end = trial.tags % 33;
     let counts_end = trial.counts % 33;
     let limits = trial.limits;
-    let placing = Placing { keys: KEYS };
+    let placing = placing();
     let time = trial.time;
     let lent = &mut records[0..records_end];
     let lent_tags = &mut tags[0..tags_end];

@@ -25,7 +25,7 @@ use Rattle.tables.proofs.Jumps.{passed-none, passed-add}
 use Rattle.rulings.specs.Rules.{Rules}
 use Rattle.gateway.specs.Calls.{State, onward}
 use Rattle.history.specs.Runs.{Site, Start, Event}
-use Rattle.history.specs.Told.{Judgement, told}
+use Rattle.history.specs.Told.{JudgedPacket, told}
 use Rattle.history.specs.Fresh.{oursOf, cellAddress, tells, Forwarded, replacements, orBefore, packetIn, forwardedBy, forwardedOn, creditBy, credits, isFresh, freshBy, freshContacts}
 use Rattle.books.proofs.Account.{Holds, at-start, recast, on-named, on-decay}
 use Rattle.books.proofs.Slots.{heldBy, Kept, kept-start, kept-onward}
@@ -183,15 +183,15 @@ module _ (x : Setup) (start : Start) where
             ∙ add-mul (multiplesPassed dmiss began (s .clock)) multiples (r .point))
 
   -- ---- one more event, by what it tells: the packet that was judged, if any, and the addresses that lost their entries
-  abbrev SlotAfter : State → List Event → ℕ → Option Judgement → Type 0
+  abbrev SlotAfter : State → List Event → ℕ → Option JudgedPacket → Type 0
   SlotAfter s h slot judged = SlotWith s slot (forwardedBy site slot judged (forwardedOn site slot h))
 
-  abbrev BooksAfter : State → List Event → ℕ → List ℕ → Option Judgement → Type 0
+  abbrev BooksAfter : State → List Event → ℕ → List ℕ → Option JudgedPacket → Type 0
   BooksAfter s h address lost judged =
       BooksWith address (s .clock) (countIn x s address) (freshContacts site start address h + freshBy site start address judged h)
       (credits site address h + creditBy site address judged) (replacements address h + timesIn address lost)
 
-  module _ {s : State} {h : List Event} (event : Event) {judged : Option Judgement} (so : told event .judged ≡ judged) where
+  module _ {s : State} {h : List Event} (event : Event) {judged : Option JudgedPacket} (so : told event .judged ≡ judged) where
     pub run-told : began ≤ s .clock → s .placing ≡ site .placing → Sound x s → ((slot : ℕ) → slot < site .records → SlotAfter s h slot judged)
         → ((address : ℕ) → address < 2 ^ 32 → BooksAfter s h address (told event .lost) judged) → Run s (event ∷ h)
     run-told late same sound slots books =
@@ -209,7 +209,7 @@ module _ (x : Setup) (start : Start) where
   Enough bytes h =
       r .threshold ≤ freshContacts site start (cellAddress (oursOf site bytes)) h + up (start .count (cellAddress (oursOf site bytes)))
 
-  abbrev pub Rightly : List Event → Option Judgement → Type 0
+  abbrev pub Rightly : List Event → Option JudgedPacket → Type 0
   Rightly h none = Unit {0}
   Rightly h (some it) =
       (isFresh site start (it .time) (packetIn site it) (some (it .verdict)) h ≡ tells 4 (some (it .verdict)))

@@ -17,8 +17,8 @@ use Rattle.refusals.proofs.Tests.{time-in-order}
 use Rattle.gateway.specs.declared.Reply.{Reply}
 use Rattle.gateway.specs.declared.Reply.the-variants.{Refused, Done}
 use Rattle.gateway.specs.Calls.{State, After, unlessRefused, timeRefusalAt, passed}
-use Rattle.history.specs.Runs.{Site, Start, Call, packetAt, timeAlone, whyAt, bytesIn, Event, judgedAt, passedAt, explainedAt, stateAfter, eventOf, leftBy, history}
-use Rattle.history.specs.Told.{Judgement, judgementBy, told}
+use Rattle.history.specs.Runs.{Site, Start, Call, packetAt, timeAlone, whyAt, bytesToJudge, Event, judgedAt, passedAt, explainedAt, stateAfter, eventOf, leftBy, history}
+use Rattle.history.specs.Told.{JudgedPacket, judgementBy, told}
 use Rattle.history.specs.Fresh.{oursOf, cellAddress, tells, replacements, orBefore, clockAfter, packetIn, decays, credits, isFresh, freshBy, freshContacts}
 use Rattle.books.proofs.Apart.{same-head, same-tail, not-nil}
 use Rattle.books.proofs.Account.{holds-bound}
@@ -27,7 +27,7 @@ use Rattle.books.proofs.Packets.{stepped-packet}
 
 -- the packets of an address that were answered 4, each by its weight
 module _ (site : Site) where
-  abbrev fourBy : ℕ → Option Judgement → ℕ
+  abbrev fourBy : ℕ → Option JudgedPacket → ℕ
   fourBy address none = 0
   fourBy address (some it) =
       cond (eqb (cellAddress (packetIn site it)) address && tells 4 (some (it .verdict))) (site .rules .weight (packetIn site it .header)) 0
@@ -39,7 +39,7 @@ module _ (site : Site) where
 -- what is asked of the calls' input
 abbrev pub AllFit : Setup → List Call → Type 0
 AllFit x [] = Unit {0}
-AllFit x (call ∷ calls) = Fit x (bytesIn call) × AllFit x calls
+AllFit x (call ∷ calls) = Fit x (bytesToJudge call) × AllFit x calls
 
 module _ (x : Setup) (start : Start) where
   abbrev site : Site
@@ -69,7 +69,7 @@ module _ (x : Setup) (start : Start) where
         go (suc n) e = stepped-quiet x start i (passedAt time (Refused (suc n))) refl refl
 
     -- one clause for each sort
-    stepped : (call : Call) → Fit x (bytesIn call) → Stepped x start (s .clock) h (stateAfter site s call) (eventOf site s call)
+    stepped : (call : Call) → Fit x (bytesToJudge call) → Stepped x start (s .clock) h (stateAfter site s call) (eventOf site s call)
     unfolding stateAfter eventOf
     stepped (packetAt time bytes) fits = stepped-packet x start s h i time bytes fits
     stepped (timeAlone time) fits = stepped-passed time
@@ -89,7 +89,7 @@ module _ (x : Setup) (start : Start) where
     run (call ∷ calls) fit = stepped (leaves calls) (happened calls) (run calls (fit .1)) call (fit .0) .run
 
     -- the last call of a run
-    last : (call : Call) (calls : List Call) → Fit x (bytesIn call) → AllFit x calls
+    last : (call : Call) (calls : List Call) → Fit x (bytesToJudge call) → AllFit x calls
         → Stepped x start (leaves calls .clock) (happened calls) (stateAfter site (leaves calls) call) (eventOf site (leaves calls) call)
     last call calls fits fit = stepped (leaves calls) (happened calls) (run calls fit) call fits
 
@@ -130,7 +130,7 @@ module _ (x : Setup) (start : Start) where
     answered (call ∷ calls) fit address =
         λ j. answered calls (fit .1) address j + one (told (eventOf site (leaves calls) call) .judged) (last call calls (fit .0) (fit .1) .rightly) j
       where
-        one : (judged : Option Judgement) → Rightly x start (happened calls) judged → freshBy site start address judged (happened calls) ≡ fourBy site address judged
+        one : (judged : Option JudgedPacket) → Rightly x start (happened calls) judged → freshBy site start address judged (happened calls) ≡ fourBy site address judged
         one none right = refl
         one (some it) right = λ j. cond (eqb (cellAddress (packetIn site it)) address && right .0 j) (r .weight (packetIn site it .header)) 0
 

@@ -34,7 +34,7 @@ use Rattle.embed.specs.declared.plain.PlainWritten.{PlainWritten}
 abbrev pub plainly : {A B : Type 0} → (A → B) → After A → After B
 plainly plain after = record { answer = plain (after .answer); state = after .state }
 
--- the answer to a start: its refusal's number or 0, and what places packets
+-- the answer to a start: its refusal's number, or 0 and what places packets
 abbrev pub plainStarted : Started → PlainStarted
 plainStarted started = record { refusal = refusalIn (started .reply); placing = started .placing }
 

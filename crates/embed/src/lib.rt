@@ -9,7 +9,7 @@ ghost use Rattle.sides.specs.Lists.{winningOf};
 ghost use Rattle.capture.specs.Capture.{openedOf, nextOf};
 ghost use Rattle.capture.specs.Format.{contentOf};
 ghost use Rattle.capture.specs.Writing.{headerPut, recordPut};
-ghost use Rattle.gateway.specs.Calls.{lent, left, refusalIn, coldPlacing, started, passed, judged};
+ghost use Rattle.gateway.specs.Calls.{lent, left, refusalIn, noPlacing, started, passed, judged};
 ghost use Rattle.frames.specs.Frames.{frameJudged};
 ghost use Rattle.tally.specs.Tally.{tallied};
 ghost use Rattle.embed.specs.Plain.{plainly, plainAnswer, plainWinner, plainOpening, plainNext, plainPutOf, plainPut, verdictIn};
@@ -49,7 +49,7 @@ pub extern "C" fn spritgrommet_cold_start(
     time: u32,
 ) -> PlainStarted
     ensures { λ r. ⌜ left (r .placing) records tags counts clock (r .refusal)
-        ≡ plainly refusalIn (started set time (lent (coldPlacing set) records tags counts clock)) ⌝ }
+        ≡ plainly refusalIn (started set time (lent noPlacing records tags counts clock)) ⌝ }
 {
     plain::of_started(gateway::cold_start(set, records, tags, counts, clock, time))
 }
@@ -105,8 +105,7 @@ pub extern "C" fn spritgrommet_judge(
     plain::of_answer(answer)
 }
 
-// Judges what an Ethernet frame that comes at a time carries. The answer is as for a packet. It goes on to `spritgrommet_judge`, and not by
-// `frames::judge`, so that the archive has the judge once, in the function that is called for every packet.
+// Judges what an Ethernet frame that comes at a time carries. The answer is as for a packet.
 #[no_mangle]
 pub extern "C" fn spritgrommet_judge_frame(
     placing: Placing,
@@ -126,6 +125,8 @@ pub extern "C" fn spritgrommet_judge_frame(
 {
     match frames::what_is_in(frame) {
         Inside::Short => plain::of_answer(Answer::Refused(5)),
+        // By `spritgrommet_judge`, and not by `frames::judge`, so that the archive has the judge once, in the function that is called for
+        // every packet.
         Inside::Packet => {
             let carried = &frame[14..];
             spritgrommet_judge(

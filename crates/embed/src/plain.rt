@@ -17,8 +17,7 @@ use sides::Side;
 use sides::Winning;
 use tally::Tally;
 
-// The answer to a start: the number of its refusal, or 0; and what places packets in the tables, on which the gateway runs where it is not
-// refused.
+// The answer to a start: the number of its refusal, or 0 and what places packets in the tables, for the calls that follow.
 #[repr(C)]
 pub struct PlainStarted {
     pub refusal: u8,

@@ -3,7 +3,7 @@
 use mathlib.Core.List.{List}
 use Prim.Native.Nat.{ℕ, zero, suc}
 use lib.IntN.{ℤ}
-use lib.ListN.{length}
+use lib.ListN.{length, replicate}
 use denote.Ref.{RefT}
 use denote.Triple.Both.{Both}
 use Rattle.settings.specs.declared.Limits.{Limits}
@@ -72,6 +72,13 @@ refusalIn (Refused number) = number
 refusalIn Done = 0
 
 -- ---- a cold start
+-- A gateway that has not started is lent tables and a clock, and has nothing yet to place packets with: every key 0 stands for that.
+abbrev pub noPlacing : Placing
+noPlacing = record { keys = replicate 8 0 }
+
+abbrev pub unstarted : Tables → ℕ → State
+unstarted tables clock = record { placing = noPlacing; tables = tables; clock = clock }
+
 abbrev pub startRefusalAt : Limits → State → ℕ
 startRefusalAt limits before = bySizes (startRefusal limits) (before .tables)
 

@@ -21,7 +21,7 @@ use Rattle.rulings.specs.declared.answers.Replacement.{Replacement}
 use Rattle.rulings.specs.declared.answers.Replacement.the-variants.{None, Address}
 use Rattle.rulings.specs.declared.answers.Answer.{Answer}
 use Rattle.rulings.specs.declared.answers.Answer.the-variants as answer
-use Rattle.rulings.specs.Rules.{Rules, cellOf}
+use Rattle.rulings.specs.Rules.{SlotRule, Rules, cellOf}
 use Rattle.rulings.specs.Rulings.{rulingOf}
 use Rattle.gateway.specs.declared.Spot.{Spot}
 
@@ -34,9 +34,9 @@ abbrev pub outcomeOf : Answer → Tables → Outcome
 outcomeOf answer tables = record { answer = answer; tables = tables }
 
 -- ---- a packet of ours, from the plant or from the cell
--- where it is looked up: its slot by a slot rule among so many records, and its cell address's place among the lines of so many tags, "four entries
--- each"
-abbrev pub spotOf : (Placing → Header → Bool → ℕ → ℕ) → Placing → Header → Bool → ℕ → ℕ → Spot
+-- where it is looked up: its slot, by a slot rule, among so many records, and its cell address's place among the lines of so many tags,
+-- "four entries each"
+abbrev pub spotOf : SlotRule → Placing → Header → Bool → ℕ → ℕ → Spot
 spotOf slot placing h fromPlant records tags =
     record {
       slot = slot placing h fromPlant records;

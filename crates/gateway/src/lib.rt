@@ -9,8 +9,9 @@ ghost use Rattle.entries.specs.Entries.{writtenOf};
 ghost use Rattle.tables.specs.Sizes.{badSizes};
 ghost use Rattle.rulings.specs.Rules.{cellOf, plantOf, slotRule, rulesOf};
 ghost use Rattle.tables.specs.Tables.{lentTables, leftTables};
+ghost use Rattle.gateway.specs.declared.Reply.the-variants.{Refused};
 ghost use Rattle.gateway.specs.Packets.{outcomeOf, replacementOf, entered, spotOf, rulingAt, settled, ours, isOurs, isFromPlant, byDirection};
-ghost use Rattle.gateway.specs.Calls.{lent, left, coldPlacing, tablesAt, started, passed, accepted, judged};
+ghost use Rattle.gateway.specs.Calls.{lent, left, noPlacing, tablesAt, started, passed, accepted, judged};
 ghost use Rattle.gateway.specs.Why.{metIn, dropOf, whyMet, whyOurs, whyByDirection, whyOf};
 use entries::Replaced;
 use packet::Header;
@@ -34,7 +35,7 @@ pub enum Reply {
     Done,
 }
 
-// What a start answers: its refusal, or that it is done; and what places packets in the tables, which every later call takes.
+// What a start answers: its refusal alone, or that it is done and what places packets in the tables, which every later call takes.
 pub struct Started {
     pub reply: Reply,
     pub placing: Placing,
@@ -43,8 +44,17 @@ pub struct Started {
 // Counts are in points: each multiple of Dmiss that is passed takes one.
 const POINT: u8 = 1;
 
+// The answer to a start that is refused: its number alone, for every key is 0.
+fn refused_start(number: u8) -> Started
+    ensures { λ r. ⌜ r ≡ record { reply = Refused number; placing = noPlacing } ⌝ }
+{
+    let reply = Reply::Refused(number);
+    let placing = Placing { keys: [0; 8] };
+    Started { reply, placing }
+}
+
 // Starts cold: every record and tag 0, every count -32,768, and the clock at the time. Answers refusal 1 or 2, and then nothing is changed,
-// or that it is done; and beside either the settings' keys, on which the gateway then runs where it is done.
+// or that it is done, and the settings' keys, on which the gateway then runs.
 pub fn cold_start(
     set: Settings,
     records: &mut [u8],
@@ -54,17 +64,16 @@ pub fn cold_start(
     time: u32,
 ) -> Started
     ensures { λ r. ⌜ left (r .placing) records tags counts clock (r .reply)
-        ≡ started set time (lent (coldPlacing set) records tags counts clock) ⌝ }
+        ≡ started set time (lent noPlacing records tags counts clock) ⌝ }
 {
-    let keys = set.keys;
-    let placing = Placing { keys };
     let number = refusals::of_start(set.limits, records.len(), tags.len(), counts.len());
     if number != 0 {
-        let reply = Reply::Refused(number);
-        return Started { reply, placing };
+        return refused_start(number);
     }
     cold::fill(records, tags, counts);
     *clock = time;
+    let keys = set.keys;
+    let placing = Placing { keys };
     let reply = Reply::Done;
     Started { reply, placing }
 }
@@ -383,7 +392,7 @@ fn met_at(
     time: u32,
 ) -> Met
     requires { ⌜ spot .slot < length (now records) ⌝ }
-    ensures { λ r. ⌜ r ≡ metIn spot (tablesAt 1 limits clock time (lentTables records tags counts)) ⌝ }
+    ensures { λ r. ⌜ r ≡ metIn spot (tablesAt (rulesOf limits .point) limits clock time (lentTables records tags counts)) ⌝ }
 {
     let slot = spot.slot;
     let minutes = tables::clock::multiples_passed(60, clock, time);
@@ -469,7 +478,7 @@ fn explain_ours<'a>(
 ) -> Explanation
     requires { ⌜ badSizes (length (now records)) (length (now tags)) (length (now counts)) ≡ false ⌝ }
     ensures { λ r. ⌜ r ≡ whyOurs (rulesOf limits) placing (now (cell .entry)) (now (plant .entry)) header «from_plant»
-        (tablesAt 1 limits clock time (lentTables records tags counts)) ⌝ }
+        (tablesAt (rulesOf limits .point) limits clock time (lentTables records tags counts)) ⌝ }
 {
     let spot = spot_of(placing, header, from_plant, records.len(), tags.len());
     let met = met_at(limits, spot, records, tags, counts, clock, time);
@@ -492,7 +501,7 @@ fn explain_by_direction<'a>(
 ) -> Explanation
     requires { ⌜ badSizes (length (now records)) (length (now tags)) (length (now counts)) ≡ false ⌝ }
     ensures { λ r. ⌜ r ≡ whyByDirection (rulesOf limits) placing (now (cell .entry)) (now (plant .entry)) header direction
-        (tablesAt 1 limits clock time (lentTables records tags counts)) ⌝ }
+        (tablesAt (rulesOf limits .point) limits clock time (lentTables records tags counts)) ⌝ }
 {
     if is_ours(direction) {
         let of_plant = is_from_plant(direction);

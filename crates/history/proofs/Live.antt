@@ -14,7 +14,7 @@ use borrow.Author.Tests.{leb-true, le-leb, not-true}
 use Rattle.laws.proofs.Tests.{true-is-not-false, is-false, and-left, and-right, and-yes}
 use Rattle.tables.specs.Clock.{multiplesPassed}
 use Rattle.gateway.specs.Calls.{State}
-use Rattle.history.specs.Runs.{Site, Start, coldStart, Event}
+use Rattle.history.specs.Runs.{Site, Start, startedCold, Event}
 use Rattle.history.specs.Fresh.{Ours, forwards, Forwarded, closesFromPlant, NoLongGap, Live, isLive, slotFor, forwardedOn, Fresh, liveFor, isFresh}
 
 module _ (dconn : ℕ) where
@@ -69,7 +69,7 @@ module _ (dconn : ℕ) where
 
 module _ (site : Site) (state : State) (time : ℕ) (packet : Ours) (verdict : Option ℕ) (before : List Event) where
   abbrev start : Start
-  start = coldStart state
+  start = startedCold state
 
   abbrev live : Bool
   live = liveFor site start packet time before

@@ -16,7 +16,7 @@ use Rattle.rulings.specs.declared.answers.Answer.the-variants.{Refused, NotOurs
 use Rattle.rulings.specs.Rules.{Rules}
 use Rattle.gateway.specs.declared.Reply.the-variants as reply
 use Rattle.gateway.specs.Calls.{stateOf, coldPlacing}
-use Rattle.history.specs.Runs.{Site, Start, coldStart, Event, judgedAt, passedAt, explainedAt}
+use Rattle.history.specs.Runs.{Site, Start, startedCold, Event, judgedAt, passedAt, explainedAt}
 use Rattle.history.specs.Fresh.{replacements, decays, credits, freshContacts}
 
 abbrev settings : Settings
@@ -46,7 +46,7 @@ site =
 
 -- of its state only the clock matters here
 abbrev start : Start
-start = coldStart (stateOf (coldPlacing settings) [] [] [] 100)
+start = startedCold (stateOf (coldPlacing settings) [] [] [] 100)
 
 -- a TCP packet with flags, from 10.0.0.machine to 192.168.0.stranger, and one back
 abbrev sent : ℕ → ℕ → ℕ → List ℕ

@@ -16,7 +16,7 @@ use Rattle.verdicts.specs.Verdicts.{isClosing}
 use Rattle.rulings.specs.Rules.{cellOf}
 use Rattle.gateway.specs.Packets.{directionIn, isFromPlant}
 use Rattle.history.specs.Runs.{Site, Start, Event}
-use Rattle.history.specs.Told.{Judgement, told}
+use Rattle.history.specs.Told.{JudgedPacket, told}
 
 -- ---- packets of ours, read from their bytes (a packet that is not ours is never asked about: only one that was judged is)
 pub record Ours : Type 0 where
@@ -87,19 +87,19 @@ orBefore none before = before
 orBefore (some time) before = time
 
 abbrev pub clockAfter : ℕ → List Event → ℕ
-clockAfter start [] = start
-clockAfter start (event ∷ before) = orBefore (told event .clock) (clockAfter start before)
+clockAfter began [] = began
+clockAfter began (event ∷ before) = orBefore (told event .clock) (clockAfter began before)
 
 module _ (site : Site) where
   abbrev pub slotFor : Ours → ℕ
   slotFor packet = site .rules .slot (site .placing) (packet .header) (packet .fromPlant) (site .records)
 
   -- the packet that was judged
-  abbrev pub packetIn : Judgement → Ours
+  abbrev pub packetIn : JudgedPacket → Ours
   packetIn it = oursOf site (it .bytes)
 
   -- the packets forwarded on a slot
-  abbrev pub forwardedBy : ℕ → Option Judgement → List Forwarded → List Forwarded
+  abbrev pub forwardedBy : ℕ → Option JudgedPacket → List Forwarded → List Forwarded
   forwardedBy slot none before = before
   forwardedBy slot (some it) before =
       cond (forwards (some (it .verdict)) && eqb (slotFor (packetIn it)) slot)
@@ -118,7 +118,7 @@ module _ (site : Site) where
     pub slot-not-live : Live (site .limits .dconn) time (forwardedOn (slotFor packet) before) → ⊥
 
   -- H, for an address
-  abbrev pub creditBy : ℕ → Option Judgement → ℕ
+  abbrev pub creditBy : ℕ → Option JudgedPacket → ℕ
   creditBy address none = 0
   creditBy address (some it) = cond (eqb (cellAddress (packetIn it)) address) (creditOf (some (it .verdict))) 0
 
@@ -141,7 +141,7 @@ module _ (site : Site) where
     isFresh time packet verdict before = forwards verdict && (not (packet .fromPlant) && not (liveFor packet time before))
 
     -- F: the fresh contacts of an address that were forwarded, each by its weight, which by document 01's rules is 1
-    abbrev pub freshBy : ℕ → Option Judgement → List Event → ℕ
+    abbrev pub freshBy : ℕ → Option JudgedPacket → List Event → ℕ
     freshBy address none before = 0
     freshBy address (some it) before =
         cond (eqb (cellAddress (packetIn it)) address && isFresh (it .time) (packetIn it) (some (it .verdict)) before)

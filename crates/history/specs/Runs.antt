@@ -25,15 +25,15 @@ pub record Site : Type 0 where
   pub records : ℕ
 
 -- Where a run begins: a state, and what is held there. That is whether a slot is live at a moment while nothing was forwarded on it since,
--- and each address's count.
+-- which fresh contacts are judged by, and each address's count, which what is allowed from such a start is measured by (books/proofs/Runs).
 pub record Start : Type 0 where
   pub state : State
   pub held : ℕ → ℕ → Bool
   pub count : ℕ → ℤ
 
 -- A cold start "writes 0 to every record and tag and -32,768 to every count": no slot is live then, and every address's count is 0.
-abbrev pub coldStart : State → Start
-coldStart state = record { state = state; held = λ slot now. false; count = λ address. pos 0 }
+abbrev pub startedCold : State → Start
+startedCold state = record { state = state; held = λ slot now. false; count = λ address. pos 0 }
 
 -- "calls of every other sort" than a cold start: a packet's bytes that come at a time, a time alone, and the question why, of a packet's
 -- bytes at a time
@@ -43,10 +43,10 @@ pub data Call : Type 0 where
   whyAt : ℕ → List ℕ → Call
 
 -- the bytes that a call brings to be judged, if any
-abbrev pub bytesIn : Call → List ℕ
-bytesIn (packetAt time bytes) = bytes
-bytesIn (timeAlone time) = []
-bytesIn (whyAt time bytes) = []
+abbrev pub bytesToJudge : Call → List ℕ
+bytesToJudge (packetAt time bytes) = bytes
+bytesToJudge (timeAlone time) = []
+bytesToJudge (whyAt time bytes) = []
 
 -- a call, and what it was answered
 pub data Event : Type 0 where

@@ -1,5 +1,5 @@
--- What an event tells, by document 01's numbers. Events are read here alone: what a history says is made of what its events tell, and never
--- asks of what sort they are.
+-- What an event tells, by document 01's numbers. The clock, the life of a slot, F, D, H and R are made of what events tell, and never ask of
+-- what sort these are.
 -- Assumes nothing.
 use mathlib.Core.List.{List, [], _∷_}
 use mathlib.Core.Option.{Option, none, some}
@@ -9,7 +9,7 @@ use Rattle.gateway.specs.Calls.{refusalIn}
 use Rattle.history.specs.Runs.{Event, judgedAt, passedAt, explainedAt}
 
 -- a packet of ours that was judged: when, its bytes, and the verdict's number
-pub record Judgement : Type 0 where
+pub record JudgedPacket : Type 0 where
   pub time : ℕ
   pub bytes : List ℕ
   pub verdict : ℕ
@@ -18,7 +18,7 @@ pub record Judgement : Type 0 where
 -- entries were lost
 pub record Told : Type 0 where
   pub clock : Option ℕ
-  pub judged : Option Judgement
+  pub judged : Option JudgedPacket
   pub lost : List ℕ
 
 -- a call that is not refused sets the clock to its time
@@ -27,7 +27,7 @@ timeSet zero time = some time
 timeSet (suc number) time = none
 
 -- "0 not ours", and 1 to 6 for a packet of ours
-abbrev pub judgementBy : ℕ → List ℕ → Option ℕ → Option Judgement
+abbrev pub judgementBy : ℕ → List ℕ → Option ℕ → Option JudgedPacket
 judgementBy time bytes none = none
 judgementBy time bytes (some zero) = none
 judgementBy time bytes (some (suc n)) = some (record { time = time; bytes = bytes; verdict = suc n })

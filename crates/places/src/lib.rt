@@ -2,8 +2,7 @@
 ghost use mathlib.Core.Path.{_≡_};
 ghost use Rattle.places.specs.Places.{slotOf, placeOf, addressOf};
 
-// What places packets in a gateway's tables: it is part of the gateway's state, a start sets it, and no other call changes it. Laid out as C
-// does, for the programs that link the gateway.
+// What places packets in a gateway's tables: it is part of the gateway's state, a start sets it, and no other call changes it.
 #[repr(C)]
 pub struct Placing {
     // The eight round keys of the address permutation.

@@ -30,7 +30,7 @@ use Rattle.cold.specs.Cold.{coldTables}
 use Rattle.refusals.proofs.Tests.{good-start}
 use Rattle.gateway.specs.declared.Reply.the-variants.{Refused, Done}
 use Rattle.gateway.specs.Calls.{State, unlessRefused, coldState, started}
-use Rattle.history.specs.Runs.{coldStart, Call, bytesIn}
+use Rattle.history.specs.Runs.{startedCold, Call, bytesToJudge}
 use Rattle.history.specs.Fresh.{oursOf}
 use Rattle.books.proofs.Apart.{not-some}
 use Rattle.books.proofs.Lawful.{Lawful}
@@ -79,13 +79,13 @@ rules-lawful limits r =
 module _ (g : Gateway) (cold : StartsCold g) where
   -- the cold start is not refused, so limits and sizes are good
   good : (badLimits (g .settings .limits) ≡ false)
-      × (badSizes (length (g .lent .tables .records)) (length (g .lent .tables .tags)) (length (g .lent .tables .counts)) ≡ false)
+      × (badSizes (length (g .tables .records)) (length (g .tables .tags)) (length (g .tables .counts)) ≡ false)
   good = good-start (g .settings .limits) _ _ _ (cold .not-refused)
 
   pub range : InRange (g .settings .limits)
   range = in-range (g .settings .limits) (good .0)
 
-  pub sizes : Sized (length (g .lent .tables .records)) (length (g .lent .tables .tags)) (length (g .lent .tables .counts))
+  pub sizes : Sized (length (g .tables .records)) (length (g .tables .tags)) (length (g .tables .counts))
   sizes = sized _ _ _ (good .1)
 
   -- so this is a run over lawful rules
@@ -103,12 +103,12 @@ module _ (g : Gateway) (cold : StartsCold g) where
 
   -- that starts in this state
   abbrev cold-state : State
-  cold-state = coldState (g .settings) (g .start) (g .lent)
+  cold-state = coldState (g .settings) (g .began) (unstarted (g .tables) (g .clock))
 
-  first-is : first g ≡ coldStart cold-state
+  first-is : first g ≡ startedCold cold-state
   unfolding started
   first-is =
-      ap (λ (number : ℕ). coldStart (unlessRefused Refused number (g .lent) (record { answer = Done; state = cold-state }) .state)) (cold .not-refused)
+      ap (λ (number : ℕ). startedCold (unlessRefused Refused number (unstarted (g .tables) (g .clock)) (record { answer = Done; state = cold-state }) .state)) (cold .not-refused)
 
   -- every record is 0, and no address has an entry
   zero-record : (n slot : ℕ) → _≡_ {A = ℕ} (getD (replicate n 0) slot 0) 0
@@ -118,11 +118,11 @@ module _ (g : Gateway) (cold : StartsCold g) where
 
   cold-record : (slot : ℕ) → isCold (getD (cold-state .tables .records) slot 0) ≡ true
   unfolding coldTables
-  cold-record slot = ap isCold (zero-record (length (g .lent .tables .records)) slot) ∙ low-is-cold 0 (omega arith)
+  cold-record slot = ap isCold (zero-record (length (g .tables .records)) slot) ∙ low-is-cold 0 (omega arith)
 
   no-count : (address : ℕ) → countIn setup cold-state address ≡ pos 0
   unfolding coldTables isEmpty
-  no-count address = count-cold (cold-state .tables .tags) (length (g .lent .tables .counts)) (minus 32768) refl _ _
+  no-count address = count-cold (cold-state .tables .tags) (length (g .tables .counts)) (minus 32768) refl _ _
 
   placing-is : cold-state .placing ≡ setup .site .placing
   unfolding setup
@@ -133,12 +133,12 @@ module _ (g : Gateway) (cold : StartsCold g) where
   sound =
       let lines : 4 * sizes .lines ≡ 4 * 2 ^ (sizes .line-count .exponent) = ap (λ (n : ℕ). 4 * n) (sizes .line-count .is) in
       record {
-        records-long = length-replicate (length (g .lent .tables .records)) 0;
+        records-long = length-replicate (length (g .tables .records)) 0;
         a = sizes .line-count .exponent;
         few = omega (arith, sizes .line-count .most);
-        tags-long = length-replicate (length (g .lent .tables .tags)) 0 ∙ sizes .four-each ∙ lines;
-        counts-long = length-replicate (length (g .lent .tables .counts)) (minus 32768) ∙ sizes .alike ∙ sizes .four-each ∙ lines;
-        once = once-cold (cold-state .tables .tags) (length (g .lent .tables .counts)) (minus 32768) refl;
+        tags-long = length-replicate (length (g .tables .tags)) 0 ∙ sizes .four-each ∙ lines;
+        counts-long = length-replicate (length (g .tables .counts)) (minus 32768) ∙ sizes .alike ∙ sizes .four-each ∙ lines;
+        once = once-cold (cold-state .tables .tags) (length (g .tables .counts)) (minus 32768) refl;
       }
 
   -- so nothing is live there and every count is 0
@@ -154,12 +154,12 @@ module _ (g : Gateway) (cold : StartsCold g) where
         full = λ address l. omega arith;
       })
     where
-      nothing-held : (slot now : ℕ) → false ≡ heldBy (setup .site .limits .dconn) (g .start) (getD (cold-state .tables .records) slot 0) now
+      nothing-held : (slot now : ℕ) → false ≡ heldBy (setup .site .limits .dconn) (g .began) (getD (cold-state .tables .records) slot 0) now
       nothing-held slot now =
-          let young = leb (ageOf (getD (cold-state .tables .records) slot 0) + multiplesPassed 60 (g .start) now) (setup .site .limits .dconn) in
+          let young = leb (ageOf (getD (cold-state .tables .records) slot 0) + multiplesPassed 60 (g .began) now) (setup .site .limits .dconn) in
           sym (ap (λ (t : Bool). young && not t) (cold-record slot) ∙ and-false young)
 
   pub all-fit : (calls : List Call) → OfBytes calls → AllFit setup calls
   unfolding setup
   all-fit [] e = tt
-  all-fit (call ∷ calls) e = (address-fits (oursOf (site g) (bytesIn call) .fromPlant) (bytesIn call) (e .0), all-fit calls (e .1))
+  all-fit (call ∷ calls) e = (address-fits (oursOf (site g) (bytesToJudge call) .fromPlant) (bytesToJudge call) (e .0), all-fit calls (e .1))

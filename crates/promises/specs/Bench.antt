@@ -12,7 +12,7 @@ use Rattle.places.specs.Places.{slotOf, placeOf}
 use Rattle.records.specs.declared.Marks.{Marks}
 use Rattle.records.specs.Records.{recordOf}
 use Rattle.tables.specs.Clock.{timedOf, timePassed}
-use Rattle.settings.specs.declared.Settings.{Settings}
+use Rattle.settings.specs.declared.Limits.{Limits}
 use Rattle.settings.specs.Settings.{factorySettings, withThreshold}
 use Rattle.packet.specs.declared.Header.{Header}
 use Rattle.packet.specs.declared.kinds.Kind.{Kind}
@@ -45,10 +45,10 @@ marks plant cell = record { plant = plant; cell = cell }
 abbrev recordLater : ℕ → ℕ → ℕ → List ℤ
 recordLater age old new = map pos (timePassed 1 60 10 new (timedOf (recordOf (marks true true) age ∷ []) [] old) .records)
 
--- the verdict's number and the count after it, for a packet from the cell that meets a record and a count; T 5, and the other settings as
+-- the verdict's number and the count after it, for a packet from the cell that meets a record and a count; T 5, and the other limits as
 -- the factory has them. Addresses and ports do not matter here.
-abbrev five : Settings
-five = withThreshold 5 factorySettings
+abbrev five : Limits
+five = withThreshold 5 factorySettings .limits
 
 abbrev packet : Kind → Header
 packet kind =
@@ -64,7 +64,7 @@ abbrev ruled : Kind → Marks → ℤ → List ℤ
 ruled kind met count = pos (numberOf (ruling .verdict)) ∷ ruling .count ∷ []
   where
     ruling : Ruling
-    ruling = rulingOf (rulesOf (five .limits)) (packet kind) false (recordOf met 0) count
+    ruling = rulingOf (rulesOf five) (packet kind) false (recordOf met 0) count
 
 unfoldable pub table : List Row
 table =

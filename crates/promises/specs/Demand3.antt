@@ -9,21 +9,23 @@ use mathlib.Core.Path.{_≡_}
 use Prim.Native.Nat.{ℕ, _+_, _*_, _^_, _≤_, _<_}
 use lib.ListN.{length}
 use Rattle.settings.specs.declared.Settings.{Settings}
+use Rattle.tables.specs.Tables.{Tables}
 use Rattle.rulings.specs.declared.answers.Answer.{Answer}
 use Rattle.rulings.specs.Answers.{verdictTold}
 use Rattle.rulings.specs.Rules.{rulesOf}
-use Rattle.gateway.specs.Calls.{State, startRefusalAt, coldPlacing, started}
-use Rattle.history.specs.Runs.{Site, Start, coldStart, Call, bytesIn, Event, judgedAt, history}
+use Rattle.gateway.specs.Calls.{unstarted, startRefusalAt, coldPlacing, started}
+use Rattle.history.specs.Runs.{Site, Start, startedCold, Call, bytesToJudge, Event, judgedAt, history}
 use Rattle.history.specs.Fresh.{oursOf, cellAddress, freshContacts, decays, credits, replacements}
 
 -- ---- a gateway and its one cold start
--- its settings and side lists, the tables and clock that it is lent, and the time at which it starts cold
+-- its settings and side lists, the tables and the clock that it is lent, and the time at which it starts cold
 pub record Gateway : Type 0 where
   pub settings : Settings
   pub cell : List ℕ
   pub plant : List ℕ
-  pub lent : State
-  pub start : ℕ
+  pub tables : Tables
+  pub clock : ℕ
+  pub began : ℕ
 
 -- each number of a list is below a limit
 abbrev pub EachBelow : ℕ → List ℕ → Type 0
@@ -32,12 +34,12 @@ EachBelow limit (x ∷ xs) = (x < limit) × EachBelow limit xs
 
 -- the cold start is not refused. That keys are 32-bit words, and packets made of bytes, is what the types of the code's arguments say.
 pub record StartsCold (g : Gateway) : Type 0 where
-  pub not-refused : startRefusalAt (g .settings .limits) (g .lent) ≡ 0
+  pub not-refused : startRefusalAt (g .settings .limits) (unstarted (g .tables) (g .clock)) ≡ 0
   pub keys-are-words : EachBelow (2 ^ 32) (g .settings .keys)
 
 abbrev pub OfBytes : List Call → Type 0
 OfBytes [] = Unit {0}
-OfBytes (call ∷ calls) = EachBelow 256 (bytesIn call) × OfBytes calls
+OfBytes (call ∷ calls) = EachBelow 256 (bytesToJudge call) × OfBytes calls
 
 -- ---- its run
 module _ (g : Gateway) where
@@ -50,12 +52,12 @@ module _ (g : Gateway) where
         placing = coldPlacing (g .settings);
         cell = g .cell;
         plant = g .plant;
-        records = length (g .lent .tables .records);
+        records = length (g .tables .records);
       }
 
-  -- "From its one cold start": the state that it leaves
+  -- "From its one cold start": in the state that it leaves, with nothing held
   abbrev pub first : Start
-  first = coldStart (started (g .settings) (g .start) (g .lent) .state)
+  first = startedCold (started (g .settings) (g .began) (unstarted (g .tables) (g .clock)) .state)
 
   -- what happened, call by call, from there on
   abbrev pub happened : List Call → List Event

@@ -15,7 +15,7 @@ use Rattle.rulings.specs.declared.answers.Answer.{Answer}
 use Rattle.tables.specs.Tables.{Tables}
 use Rattle.gateway.specs.declared.Reply.{Reply}
 use Rattle.gateway.specs.declared.Reply.the-variants.{Refused, Done}
-use Rattle.gateway.specs.Calls.{State, After, unlessRefused, startRefusalAt, coldPlacing, coldState, started}
+use Rattle.gateway.specs.Calls.{State, After, unlessRefused, unstarted, startRefusalAt, coldState, started}
 use Rattle.frames.specs.Frames.{frameJudged, frameExplained}
 use Rattle.reasons.specs.declared.Asked.{Asked}
 use Rattle.reasons.specs.declared.Asked.the-variants.{Nothing, Why}
@@ -29,16 +29,19 @@ use Rattle.replay.specs.Replay.{programSettings, programLimits, programR
 abbrev programState : Tables → ℕ → State
 programState tables clock = record { placing = programPlacing; tables = tables; clock = clock }
 
--- the first record starts it: with that, and without where it is refused
+-- the first record starts it. What a start makes of tables and clock does not depend on what placed packets before it.
 module _ (time : ℕ) (tables : Tables) (clock : ℕ) where
+  abbrev startedFrom : ℕ → State → State
+  startedFrom number before = unlessRefused Refused number before (record { answer = Done; state = coldState programSettings time before }) .state
+
   starts : (number : ℕ)
-      → let after = unlessRefused Refused number (programState tables clock) (record { answer = Done; state = coldState programSettings time (programState tables clock) }) in
-      programState (after .state .tables) (after .state .clock) ≡ after .state
+      → programState (startedFrom number (unstarted tables clock) .tables) (startedFrom number (unstarted tables clock) .clock)
+      ≡ startedFrom number (programState tables clock)
   starts zero = refl
   starts (suc n) = refl
 
   pub first : (settings : Settings) (after : After Reply) → settings ≡ programSettings
-      → after ≡ started settings time (record { placing = coldPlacing settings; tables = tables; clock = clock })
+      → after ≡ started settings time (unstarted tables clock)
       → programState (after .state .tables) (after .state .clock) ≡ startedFirst true time (programState tables clock)
   unfolding startedFirst started
   first settings after e f = rw (f, e) (starts (startRefusalAt programLimits (programState tables clock)))

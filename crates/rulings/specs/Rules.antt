@@ -17,6 +17,10 @@ cellOf h fromPlant = cond fromPlant (h .destination) (h .source)
 abbrev pub plantOf : Header → Bool → ℕ
 plantOf h fromPlant = cond fromPlant (h .source) (h .destination)
 
+-- a slot rule: the slot of a packet of ours, by what places packets in the state's tables, among so many records
+abbrev pub SlotRule : Type 0
+SlotRule = Placing → Header → Bool → ℕ → ℕ
+
 pub record Rules : Type 0 where
   -- T and Cmin, as counts
   pub threshold : ℕ
@@ -27,11 +31,10 @@ pub record Rules : Type 0 where
   pub weight : Header → ℕ
   -- the count that an attempt, dropped as blocked on a slot with neither mark, writes over this one, if it writes
   pub attempt : Header → ℤ → Option ℤ
-  -- the slot of a packet of ours by what places packets in the state's tables, among so many records
-  pub slot : Placing → Header → Bool → ℕ → ℕ
+  pub slot : SlotRule
 
--- The slot rule: that of plant address, cell address and port.
-abbrev pub slotRule : Placing → Header → Bool → ℕ → ℕ
+-- The gateway's slot rule: by plant address, cell address and port.
+abbrev pub slotRule : SlotRule
 slotRule placing h fromPlant records = slotOf (placing .keys) (plantOf h fromPlant) (cellOf h fromPlant) (portOf h fromPlant) records
 
 -- The rules of a gateway with these limits. By document 01 counts are in points; "count+1 for 4"; "Dropped packets alter neither table".

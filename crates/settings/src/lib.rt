@@ -3,21 +3,20 @@ ghost use mathlib.Core.Path.{_≡_};
 ghost use Rattle.settings.specs.Settings.{factorySettings, withThreshold, badLimits};
 
 // The settings that have a range, which every call of a gateway takes. The type of each number is wider than its range, so that a value
-// outside it can be given, and is refused. Laid out as C does, for the programs that link the gateway.
+// outside it can be given, and is refused.
 #[repr(C)]
 pub struct Limits {
-    // T: a cell address is blocked when its count is at least this.
+    // T, 1 to 255: a cell address is blocked when its count is at least this.
     pub threshold: u16,
-    // Cmin: no credit lowers a count below this.
+    // Cmin, -1,000 to 0: no credit lowers a count below this.
     pub floor: i16,
-    // Dmiss: at each multiple of so many seconds every positive count falls by one.
+    // Dmiss, 1 to 3,600: at each multiple of so many seconds every positive count falls by one.
     pub dmiss: u16,
-    // Dconn: a connection record lives over so many minute boundaries.
+    // Dconn, 1 to 62: a connection record lives over so many minute boundaries.
     pub dconn: u8,
 }
 
-// All settings of a gateway. The keys are free, and a cold start alone takes them: from then on the gateway runs on those of its state. They
-// come first, so that a copy of them is an aligned one.
+// All settings of a gateway. The keys are free, and a cold start alone takes them: from then on the gateway runs on those of its state.
 #[repr(C)]
 pub struct Settings {
     // The eight round keys of the address permutation.

@@ -78,8 +78,8 @@ module _ (g : AnyGateway) (m : MeetsContracts g) where
   by-contract : (bytes : List ℕ) (before : State) → judgedBy bytes before ≡ judgedAt100 bytes before
   by-contract bytes before = m .of-judge (gateway .settings .limits) (gateway .cell) (gateway .plant) 100 bytes before
 
-  started-cold : g .start (gateway .settings) 100 (gateway .lent .tables) (gateway .lent .clock) .state ≡ cold
-  started-cold = ap (λ (a : After Reply). a .state) (m .of-start (gateway .settings) 100 (gateway .lent .tables) (gateway .lent .clock)) ∙ cold-is
+  started-cold : g .start (gateway .settings) 100 (gateway .tables) (gateway .clock) .state ≡ cold
+  started-cold = ap (λ (a : After Reply). a .state) (m .of-start (gateway .settings) 100 (gateway .tables) (gateway .clock)) ∙ cold-is
 
   pub must-not-pass : MustNotPass g
   must-not-pass =
@@ -110,13 +110,13 @@ module _ (g : AnyGateway) (m : MeetsContracts g) where
         ));
         tables-by-starts = λ none. absurd (omega (
           arith,
-          ap below (none (gateway .settings) 100 (gateway .lent .tables) (gateway .lent .clock)),
+          ap below (none (gateway .settings) 100 (gateway .tables) (gateway .clock)),
           ap (λ (s : State). below (s .tables)) started-cold,
         ));
         not-repeated = λ repeats. absurd (omega (
           arith,
           ap (λ (a : Answer). numberIn (verdictTold a))
-              (repeats (gateway .settings) (gateway .cell) (gateway .plant) (gateway .lent .tables) (gateway .lent .clock) 100 100 100 (syn 1 6379) (synAckBack 1 6379)),
+              (repeats (gateway .settings) (gateway .cell) (gateway .plant) (gateway .tables) (gateway .clock) 100 100 100 (syn 1 6379) (synAckBack 1 6379)),
           ap (λ (s : State). verdict (judgedBy (syn 1 6379) s)) started-cold,
           ap verdict (by-contract (syn 1 6379) cold),
           contact .1,

@@ -40,7 +40,7 @@ use Rattle.cold.specs.Cold.{coldTables}
 use Rattle.refusals.specs.Refusals.{startRefusal, earlyRefusal}
 use Rattle.gateway.specs.Packets.{ours, byDirection}
 use Rattle.gateway.specs.Calls.{State, stateOf, After, coldPlacing, started, judged}
-use Rattle.history.specs.Runs.{coldStart, Call, packetAt, whyAt, Event, judgedAt, stateAfter, eventOf, leftBy, history}
+use Rattle.history.specs.Runs.{startedCold, Call, packetAt, whyAt, Event, judgedAt, stateAfter, eventOf, leftBy, history}
 use Rattle.books.proofs.Apart.{same-head, same-tail}
 use Rattle.books.proofs.Runs.{fours}
 use Rattle.promises.specs.Demand3.{EachBelow, StartsCold, OfBytes, site, first, happened, F, D, H, R, most, least}
@@ -170,20 +170,20 @@ exactly-made =
 abbrev pub cold : State
 cold = stateBefore []
 
-left-is : (rows : List Row) → made rows ≡ said rows → leftBy (site gateway) (coldStart cold) (callsOf rows) ≡ stateBefore rows
+left-is : (rows : List Row) → made rows ≡ said rows → leftBy (site gateway) (startedCold cold) (callsOf rows) ≡ stateBefore rows
 unfolding leftBy stateAfter
 left-is [] e = refl
 left-is (row ∷ rows) e =
     ap (λ (s : State). judgedHere (row .time) (row .bytes) s .state) (left-is rows (same-tail e))
     ∙ ap (λ (after : After Answer). after .state) (same-head e)
 
-history-is : (rows : List Row) → made rows ≡ said rows → history (site gateway) (coldStart cold) (callsOf rows) ≡ eventsOf rows
+history-is : (rows : List Row) → made rows ≡ said rows → history (site gateway) (startedCold cold) (callsOf rows) ≡ eventsOf rows
 unfolding leftBy history eventOf
 history-is [] e = refl
 history-is (row ∷ rows) e =
     λ i. judgedAt (row .time) (row .bytes) (answer i) ∷ history-is rows (same-tail e) i
   where
-    answer : judgedHere (row .time) (row .bytes) (leftBy (site gateway) (coldStart cold) (callsOf rows)) .answer
+    answer : judgedHere (row .time) (row .bytes) (leftBy (site gateway) (startedCold cold) (callsOf rows)) .answer
         ≡ Judged (row .verdict) (row .count) (row .replaced)
     answer =
         ap (λ (s : State). judgedHere (row .time) (row .bytes) s .answer) (left-is rows (same-tail e))
@@ -194,7 +194,7 @@ unfolding started startRefusal badLimits badSizes coldTables
 cold-is = refl
 
 happened-is : (rows : List Row) → made rows ≡ said rows → happened gateway (callsOf rows) ≡ eventsOf rows
-happened-is rows e = ap (λ (s : State). history (site gateway) (coldStart s) (callsOf rows)) cold-is ∙ history-is rows e
+happened-is rows e = ap (λ (s : State). history (site gateway) (startedCold s) (callsOf rows)) cold-is ∙ history-is rows e
 
 -- ---- the premises of demand 3 are met
 abbrev allBelow : ℕ → List ℕ → Bool

@@ -13,7 +13,7 @@ use Rattle.rulings.specs.declared.answers.Answer.{Answer}
 use Rattle.rulings.specs.Answers.{refusalTold, verdictTold}
 use Rattle.rulings.specs.Rules.{rulesOf}
 use Rattle.gateway.specs.declared.Reply.{Reply}
-use Rattle.gateway.specs.Calls.{State, After, coldPlacing, started, passed, judged}
+use Rattle.gateway.specs.Calls.{State, After, unstarted, started, passed, judged}
 
 -- any gateway, by what its three calls answer and leave: a cold start, which is lent tables and a clock, a time alone, a packet
 pub record AnyGateway : Type 0 where
@@ -25,7 +25,7 @@ module _ (g : AnyGateway) where
   -- the contracts of `cold_start`, `pass` and `judge`
   pub record MeetsContracts : Type 0 where
     pub of-start : (settings : Settings) (time : ℕ) (tables : Tables) (clock : ℕ)
-        → g .start settings time tables clock ≡ started settings time (record { placing = coldPlacing settings; tables = tables; clock = clock })
+        → g .start settings time tables clock ≡ started settings time (unstarted tables clock)
     pub of-pass : (limits : Limits) (time : ℕ) (before : State) → g .pass limits time before ≡ passed (rulesOf limits) limits time before
     pub of-judge : (limits : Limits) (cell plant : List ℕ) (time : ℕ) (bytes : List ℕ) (before : State)
         → g .judge limits cell plant time bytes before ≡ judged (rulesOf limits) limits cell plant time bytes before

@@ -7,7 +7,7 @@ use Prim.Native.Nat.{ℕ, _/_, _%_}
 use lib.IntN.{pos}
 use lib.ListN.{replicate}
 use Rattle.settings.specs.Settings.{factorySettings, withThreshold}
-use Rattle.gateway.specs.Calls.{stateOf, coldPlacing}
+use Rattle.tables.specs.Tables.{tablesOf}
 use Rattle.history.specs.Runs.{Call, packetAt, whyAt}
 use Rattle.promises.specs.Demand3.{Gateway}
 
@@ -18,8 +18,9 @@ gateway =
       settings = withThreshold 2 factorySettings;
       cell = 10 ∷ 0 ∷ 0 ∷ 0 ∷ 8 ∷ [];
       plant = 192 ∷ 168 ∷ 0 ∷ 0 ∷ 16 ∷ [];
-      lent = stateOf (coldPlacing factorySettings) (replicate 16 0) (replicate 4 0) (replicate 4 (pos 0)) 0;
-      start = 100;
+      tables = tablesOf (replicate 16 0) (replicate 4 0) (replicate 4 (pos 0));
+      clock = 0;
+      began = 100;
     }
 
 -- a TCP packet between 10.0.0.number, port 40000, and a port of 192.168.0.1: a SYN to the plant, and its SYN+ACK back
