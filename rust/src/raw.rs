@@ -269,11 +269,13 @@ extern "C" {
 }
 
 // The same by references in place of pointers.
-// SAFETY: a list's pointer leads to as many elements as its length says, none is null, and what is lent for writing overlaps nothing else.
+// SAFETY, of each `unsafe` below: a reference's pointer is aligned and not null, a slice's leads to as many elements as its length says,
+// what is lent for writing is lent once, and the archive keeps no pointer when it returns.
 
 /// The factory settings.
 #[inline]
 pub fn factory() -> Settings {
+    // SAFETY: as above.
     unsafe { spritgrommet_factory() }
 }
 
@@ -287,6 +289,7 @@ pub fn cold_start(
     clock: &mut u32,
     time: u32,
 ) -> PlainStarted {
+    // SAFETY: as above.
     unsafe {
         spritgrommet_cold_start(
             settings,
@@ -313,6 +316,7 @@ pub fn pass(
     limits: Limits,
     time: u32,
 ) -> u8 {
+    // SAFETY: as above.
     unsafe {
         spritgrommet_pass(
             placing,
@@ -343,6 +347,7 @@ pub fn judge(
     time: u32,
     packet: &[u8],
 ) -> PlainAnswer {
+    // SAFETY: as above.
     unsafe {
         spritgrommet_judge(
             placing,
@@ -379,6 +384,7 @@ pub fn judge_frame(
     time: u32,
     frame: &[u8],
 ) -> PlainAnswer {
+    // SAFETY: as above.
     unsafe {
         spritgrommet_judge_frame(
             placing,
@@ -404,48 +410,56 @@ pub fn judge_frame(
 /// The entry of the side lists that decides on an address: whose list has it, and its place there.
 #[inline]
 pub fn winner(cell: &[u8], plant: &[u8], address: u32) -> PlainWinner {
+    // SAFETY: as above.
     unsafe { spritgrommet_winner(cell.as_ptr(), cell.len(), plant.as_ptr(), plant.len(), address) }
 }
 
 /// The address permutation E of a word, under eight round keys.
 #[inline]
 pub fn encrypt(keys: &[u32; 8], word: u32) -> u32 {
+    // SAFETY: as above.
     unsafe { spritgrommet_encrypt(keys, word) }
 }
 
 /// The inverse of E, of a word, under the same keys.
 #[inline]
 pub fn decrypt(keys: &[u32; 8], word: u32) -> u32 {
+    // SAFETY: as above.
     unsafe { spritgrommet_decrypt(keys, word) }
 }
 
 /// Adds an answer's verdict to the tally that is lent. A refusal adds nothing.
 #[inline]
 pub fn tally(tally: &mut Tally, answer: PlainAnswer) {
+    // SAFETY: as above.
     unsafe { spritgrommet_tally(tally, answer) }
 }
 
 /// Reads a capture's header. The answer is refusal 7, or where the first record starts.
 #[inline]
 pub fn open(bytes: &[u8]) -> PlainOpening {
+    // SAFETY: as above.
     unsafe { spritgrommet_open(bytes.as_ptr(), bytes.len()) }
 }
 
 /// Reads the capture's record at a cursor. The answer is refusal 8, that no byte is left, or the record.
 #[inline]
 pub fn next(bytes: &[u8], cursor: Cursor) -> PlainNext {
+    // SAFETY: as above.
     unsafe { spritgrommet_next(bytes.as_ptr(), bytes.len(), cursor) }
 }
 
 /// Writes a capture's header into the room at a place. The answer is refusal 9, or the place of the first record.
 #[inline]
 pub fn put_header(room: &mut [u8], at: usize) -> PlainWritten {
+    // SAFETY: as above.
     unsafe { spritgrommet_put_header(room.as_mut_ptr(), room.len(), at) }
 }
 
 /// Writes a record into the room at a place. The answer is refusal 8 or 9, or the place of the next record.
 #[inline]
 pub fn put_record(room: &mut [u8], at: usize, seconds: u32, microseconds: u32, original: u32, frame: &[u8]) -> PlainWritten {
+    // SAFETY: as above.
     unsafe {
         spritgrommet_put_record(room.as_mut_ptr(), room.len(), at, seconds, microseconds, original, frame.as_ptr(), frame.len())
     }
@@ -465,6 +479,7 @@ pub fn why(
     time: u32,
     packet: &[u8],
 ) -> PlainReason {
+    // SAFETY: as above.
     unsafe {
         spritgrommet_why(
             placing,
@@ -501,6 +516,7 @@ pub fn why_frame(
     time: u32,
     frame: &[u8],
 ) -> PlainReason {
+    // SAFETY: as above.
     unsafe {
         spritgrommet_why_frame(
             placing,
