@@ -34,7 +34,7 @@ pub struct Placing {
     pub keys: [u32; 8],
 }
 
-/// The answer to a start: the number of its refusal, or 0; and the settings' keys, for the calls that follow to take where it is 0.
+/// The answer to a start: the number of its refusal, or 0 and what places packets in the tables, for the calls that follow.
 #[repr(C)]
 #[derive(Clone, Copy, Debug, PartialEq, Eq)]
 pub struct PlainStarted {
