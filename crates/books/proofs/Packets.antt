@@ -40,7 +40,8 @@ use Rattle.rulings.specs.Rules.{Rules}
 use Rattle.rulings.specs.Rulings.{countedBy, verdictBy, newCount, rulingOf}
 use Rattle.gateway.specs.Packets.{Outcome, spotOf, rulingAt, replacementOf, settled, ours, directionIn, isFromPlant, byDirection}
 use Rattle.refusals.proofs.Tests.{packet-in-order}
-use Rattle.gateway.specs.Calls.{State, After, numberOr, unlessRefused, packetRefusal, accepted, judged}
+use Rattle.gateway.specs.Calls.{State, After, unlessRefused, packetRefusal, accepted, judged}
+use Rattle.gateway.proofs.Steps.{first-none}
 use Rattle.history.specs.Runs.{Site, Start, Event, judgedAt}
 use Rattle.history.specs.Told.{judgementBy, oneOrNone}
 use Rattle.history.specs.Fresh.{Ours, oursOf, cellAddress, forwards, creditOf, replacements, slotFor, forwardedOn, credits, isFresh, freshContacts}
@@ -349,10 +350,6 @@ module _ (x : Setup) (start : Start) where
     early e =
         packet-in-order (site .limits) (length (s .tables .records)) (length (s .tables .tags)) (length (s .tables .counts)) (site .cell) (site .plant) (s .clock) time
         (first-none _ (headerRefusal bytes) e)
-      where
-        first-none : (m n : ℕ) → numberOr m n ≡ 0 → m ≡ 0
-        first-none zero n q = refl
-        first-none (suc m) n q = q
 
     pub stepped-packet : Stepped x start (s .clock) h (judged (site .rules) (site .limits) (site .cell) (site .plant) time bytes s .state)
         (judgedAt time bytes (judged (site .rules) (site .limits) (site .cell) (site .plant) time bytes s .answer))

@@ -88,7 +88,8 @@ pub extern "C" fn spritgrommet_judge(
 ) -> PlainAnswer
     ensures { λ r. ⌜ left placing records tags counts clock r
         ≡ plainly plainAnswer
-        (judged (rulesOf limits) limits (now (cell .entry)) (now (plant .entry)) time (now (packet .entry)) (lent placing records tags counts clock)) ⌝ }
+        (judged (rulesOf limits) limits (now (cell .entry)) (now (plant .entry)) time (now (packet .entry))
+        (lent placing records tags counts clock)) ⌝ }
 {
     let answer = gateway::judge(
         placing,
@@ -121,7 +122,8 @@ pub extern "C" fn spritgrommet_judge_frame(
 ) -> PlainAnswer
     ensures { λ r. ⌜ left placing records tags counts clock r
         ≡ plainly plainAnswer
-        (frameJudged (rulesOf limits) limits (now (cell .entry)) (now (plant .entry)) time (now (frame .entry)) (lent placing records tags counts clock)) ⌝ }
+        (frameJudged (rulesOf limits) limits (now (cell .entry)) (now (plant .entry)) time (now (frame .entry))
+        (lent placing records tags counts clock)) ⌝ }
 {
     match frames::what_is_in(frame) {
         Inside::Short => plain::of_answer(Answer::Refused(5)),

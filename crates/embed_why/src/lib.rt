@@ -28,7 +28,8 @@ pub extern "C" fn spritgrommet_why<'a>(
     packet: &[u8],
 ) -> PlainReason
     ensures { λ r. ⌜ r ≡ plainReason
-        (whyOf (rulesOf limits) limits (now (cell .entry)) (now (plant .entry)) time (now (packet .entry)) (lent placing records tags counts clock)) ⌝ }
+        (whyOf (rulesOf limits) limits (now (cell .entry)) (now (plant .entry)) time (now (packet .entry))
+        (lent placing records tags counts clock)) ⌝ }
 {
     let reason = gateway::why(
         placing,
@@ -60,7 +61,8 @@ pub extern "C" fn spritgrommet_why_frame<'a>(
     frame: &[u8],
 ) -> PlainReason
     ensures { λ r. ⌜ r ≡ plainReason
-        (frameExplained (rulesOf limits) limits (now (cell .entry)) (now (plant .entry)) time (now (frame .entry)) (lent placing records tags counts clock)) ⌝ }
+        (frameExplained (rulesOf limits) limits (now (cell .entry)) (now (plant .entry)) time (now (frame .entry))
+        (lent placing records tags counts clock)) ⌝ }
 {
     let told = frames::why(
         placing,

@@ -44,7 +44,8 @@ pub fn judge(
     frame: &[u8],
 ) -> Answer
     ensures { λ r. ⌜ left placing records tags counts clock r
-        ≡ frameJudged (rulesOf limits) limits (now (cell .entry)) (now (plant .entry)) time (now (frame .entry)) (lent placing records tags counts clock) ⌝ }
+        ≡ frameJudged (rulesOf limits) limits (now (cell .entry)) (now (plant .entry)) time (now (frame .entry))
+        (lent placing records tags counts clock) ⌝ }
 {
     match what_is_in(frame) {
         Inside::Short => Answer::Refused(5),
@@ -81,7 +82,8 @@ pub fn why<'a>(
     time: u32,
     frame: &[u8],
 ) -> Explanation
-    ensures { λ r. ⌜ r ≡ frameExplained (rulesOf limits) limits (now (cell .entry)) (now (plant .entry)) time (now (frame .entry)) (lent placing records tags counts clock) ⌝ }
+    ensures { λ r. ⌜ r ≡ frameExplained (rulesOf limits) limits (now (cell .entry)) (now (plant .entry)) time (now (frame .entry))
+        (lent placing records tags counts clock) ⌝ }
 {
     match what_is_in(frame) {
         Inside::Short => Explanation::Refused(5),

@@ -132,6 +132,10 @@ pub or-else : (first : ℕ) {n k : ℕ} → first ≡ 0 → n ≡ k → n ≡ nu
 or-else zero z e = e
 or-else (suc m) z e = absurd (omega arith)
 
+pub first-none : (m n : ℕ) → numberOr m n ≡ 0 → m ≡ 0
+first-none zero n q = refl
+first-none (suc m) n q = q
+
 pub first-of-two : (first k : ℕ) {n : ℕ} → n ≡ first → (n ≡ 0 → ⊥) → n ≡ numberOr first k
 first-of-two zero k e ne = absurd (ne e)
 first-of-two (suc m) k e ne = e

@@ -338,7 +338,8 @@ pub fn judge(
     packet: &[u8],
 ) -> Answer
     ensures { λ r. ⌜ left placing records tags counts clock r
-        ≡ judged (rulesOf limits) limits (now (cell .entry)) (now (plant .entry)) time (now (packet .entry)) (lent placing records tags counts clock) ⌝ }
+        ≡ judged (rulesOf limits) limits (now (cell .entry)) (now (plant .entry)) time (now (packet .entry))
+        (lent placing records tags counts clock) ⌝ }
 {
     let number = refusals::of_packet(
         limits,
@@ -537,7 +538,8 @@ pub fn why<'a>(
     time: u32,
     packet: &[u8],
 ) -> Explanation
-    ensures { λ r. ⌜ r ≡ whyOf (rulesOf limits) limits (now (cell .entry)) (now (plant .entry)) time (now (packet .entry)) (lent placing records tags counts clock) ⌝ }
+    ensures { λ r. ⌜ r ≡ whyOf (rulesOf limits) limits (now (cell .entry)) (now (plant .entry)) time (now (packet .entry))
+        (lent placing records tags counts clock) ⌝ }
 {
     let at = *clock;
     let number = refusals::of_packet(

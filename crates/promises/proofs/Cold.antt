@@ -29,7 +29,7 @@ use Rattle.rulings.specs.Rules.{cellOf, rulesOf}
 use Rattle.cold.specs.Cold.{coldTables}
 use Rattle.refusals.proofs.Tests.{good-start}
 use Rattle.gateway.specs.declared.Reply.the-variants.{Refused, Done}
-use Rattle.gateway.specs.Calls.{State, unlessRefused, coldState, started}
+use Rattle.gateway.specs.Calls.{State, unlessRefused, unstarted, coldState, started}
 use Rattle.history.specs.Runs.{startedCold, Call, bytesToJudge}
 use Rattle.history.specs.Fresh.{oursOf}
 use Rattle.books.proofs.Apart.{not-some}

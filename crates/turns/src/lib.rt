@@ -260,7 +260,8 @@ pub fn take(
     stage: Stage,
 ) -> Stage
     ensures { λ r. ⌜ turnOf r (now (input .exit)) (now (room .exit)) (leftState programPlacing records tags counts clock)
-        ≡ turnTaken output «big_endian» (turnOf stage (now (input .entry)) (now (room .entry)) (lent programPlacing records tags counts clock)) ⌝ }
+        ≡ turnTaken output «big_endian»
+        (turnOf stage (now (input .entry)) (now (room .entry)) (lent programPlacing records tags counts clock)) ⌝ }
 {
     let before = stage.progress;
     let end = streams::within(input, stage.held);
