@@ -2,7 +2,7 @@
  * what two starts and a refused one are answered, and the packets after each.
  *   rt staticlib embed
  *   cc -Iinclude examples/keys.c target/staticlib/libembed.a -o keys && ./keys */
-#include "spritgrommet.h"
+#include "small.h"
 
 #include <stdio.h>
 
@@ -19,13 +19,7 @@ static void judge(struct spritgrommet *gateway) {
 }
 
 int main(void) {
-    static uint8_t records[16];
-    static uint32_t tags[4];
-    static int16_t counts[4];
-    static const uint8_t cell[] = {10, 0, 0, 0, 8};
-    static const uint8_t plant[] = {192, 168, 0, 0, 16};
-    struct spritgrommet gateway = {.settings = spritgrommet_factory(), .cell = {cell, sizeof cell}, .plant = {plant, sizeof plant},
-                                   .records = records, .record_count = 16, .tags = tags, .counts = counts, .entry_count = 4};
+    struct spritgrommet gateway = small_gateway();
 
     gateway.settings.keys[0] = 1;
     start(&gateway);

@@ -2,7 +2,7 @@
  * would have let it through, and the entries of the side lists that decided. docs/WHY.md says what they mean.
  *   rt staticlib embed && rt staticlib embed_why
  *   cc -Iinclude examples/why.c target/staticlib/libembed.a target/staticlib/libembed_why.a -o why && ./why */
-#include "spritgrommet.h"
+#include "small.h"
 
 #include <stdio.h>
 
@@ -12,16 +12,10 @@ static void print_entry(const char *list, struct spritgrommet_entry entry) {
 }
 
 int main(void) {
-    static uint8_t records[16];
-    static uint32_t tags[4];
-    static int16_t counts[4];
-    static const uint8_t cell[] = {10, 0, 0, 0, 8};
-    static const uint8_t plant[] = {192, 168, 0, 0, 16};
     /* RST from 10.0.0.1 port 40000 to 192.168.0.1 port 80: an IPv4 header of 20 bytes, and one of TCP. */
     static const uint8_t reset[] = {0x45, 0, 0, 40, 0, 0, 0, 0, 64, 6, 0, 0, 10,   0, 0, 1, 192, 168, 0, 1,
                                     156,  64, 0, 80, 0, 0, 0, 0, 0,  0, 0, 0, 0x50, 4, 0, 0, 0,   0,   0, 0};
-    struct spritgrommet gateway = {.settings = spritgrommet_factory(), .cell = {cell, sizeof cell}, .plant = {plant, sizeof plant},
-                                   .records = records, .record_count = 16, .tags = tags, .counts = counts, .entry_count = 4};
+    struct spritgrommet gateway = small_gateway();
     struct spritgrommet_reason reason;
 
     if (spritgrommet_gateway_cold_start(&gateway, 100) != 0) {
