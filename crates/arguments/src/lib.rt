@@ -1,4 +1,6 @@
 // What an argument of a program says.
+#![tactic(auto)]
+
 ghost use Rattle.std.specs.Prelude.{◌≡◌};
 ghost use Rattle.arguments.specs.Arguments.{is_digit, record_number};
 

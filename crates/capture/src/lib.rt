@@ -1,5 +1,7 @@
 // Captures: classic pcap, version 2.4, link type 1. They are read in either byte order and written in little-endian order. A capture may lie
 // in memory whole, or in part: a record that ends beyond the bytes at hand is told as cut, and read again when there are more.
+#![tactic(auto)]
+
 ghost use Rattle.std.specs.Prelude.{◌≡◌, ◌+◌, ◌≤◌, length, false};
 ghost use Rattle.capture.specs.Capture.{bad_words, opened_of, head_at, next_of};
 ghost use Rattle.words.specs.Words.{stored};

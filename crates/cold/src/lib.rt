@@ -1,4 +1,6 @@
 // A cold start: what it writes to the tables that the caller lends.
+#![tactic(auto)]
+
 ghost use Rattle.std.specs.Prelude.{◌≡◌, length, replicate};
 ghost use Rattle.laws.specs.Signed.{minus};
 ghost use Rattle.tables.specs.Tables.{lent_tables, left_tables};

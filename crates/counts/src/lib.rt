@@ -1,4 +1,6 @@
 // The counts of the address table: signed 16-bit numbers, one to an entry. Nothing here overflows, whatever the count.
+#![tactic(auto)]
+
 ghost use Rattle.std.specs.Prelude.{◌≡◌, map, min};
 ghost use Rattle.counts.specs.Counts.{is_empty, is_blocked, lowered_by, raised_by, decayed_by};
 

@@ -1,6 +1,8 @@
 // The gateway for programs in C and Rust: its calls over plain numbers and lent memory. include/spritgrommet.h says what each of them
 // does and answers. Each function hands on to the crate that does the work; only
 // that a short frame is refused by 5 and a bad record by 8 is said here again.
+#![tactic(auto)]
+
 ghost use Rattle.std.specs.Prelude.{◌≡◌};
 ghost use Rattle.rulings.specs.Rules.{rules_of};
 ghost use Rattle.settings.specs.Settings.{factory_settings};

@@ -1,5 +1,7 @@
 // Why a packet was dropped, for programs in C and Rust: in an archive of its own, so that the one with the judge has each of its parts once, in
 // the function that is called for every packet. include/spritgrommet.h says what each call does and answers.
+#![tactic(auto)]
+
 ghost use Rattle.std.specs.Prelude.{◌≡◌};
 ghost use Rattle.rulings.specs.Rules.{rules_of};
 ghost use Rattle.gateway.specs.Calls.{lent};

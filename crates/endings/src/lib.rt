@@ -1,4 +1,6 @@
 // The lines in which a program that replays a capture says how it ended, put into lent room from a place on.
+#![tactic(auto)]
+
 ghost use Rattle.std.specs.Prelude.{◌≡◌};
 ghost use Rattle.lines.specs.Room.{lent_room, left_room, put};
 ghost use Rattle.endings.specs.Endings.{one_more, ending, header_refused};

@@ -1,4 +1,6 @@
 // The entries of the address table: a list of tags and a list of counts, four of each to a line.
+#![tactic(auto)]
+
 ghost use Rattle.std.specs.Prelude.{◌≡◌, length, set};
 ghost use Rattle.entries.specs.Entries.{lacks_line, own_way, empty_way, smallest_way, room_for, count_in, count_of, written_of, written};
 

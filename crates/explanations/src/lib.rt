@@ -1,5 +1,7 @@
 // What is put out for a record of which it is asked why: a first line for machines, and sentences for people, put into lent room. In a text
 // about a packet that was dropped, a letter behind "%" stands for a value.
+#![tactic(auto)]
+
 ghost use Rattle.std.specs.Prelude.{◌≡◌, cond, false, []};
 ghost use Rattle.lines.specs.Room.{lent_room, left_room, put};
 ghost use Rattle.explanations.specs.Values.{kind_word, kind_words, is_blocking, kinds_that_pass, port_word, port_words, has_ports, entry_text, value_of, letter_text, filled};

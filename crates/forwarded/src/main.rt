@@ -1,4 +1,6 @@
 // Document 02's K1: reads a capture on standard input, and writes the records that were forwarded as a capture on standard output.
+#![tactic(auto)]
+
 use outputs::Output;
 
 fn main() {

@@ -1,5 +1,7 @@
 // An Ethernet frame: what it carries is judged, or explained, where that is IPv4. A frame that is too short, or carries something else, does
 // not reach the gateway.
+#![tactic(auto)]
+
 ghost use Rattle.std.specs.Prelude.{◌≡◌};
 ghost use Rattle.rulings.specs.Rules.{rules_of};
 ghost use Rattle.gateway.specs.Calls.{lent, left};

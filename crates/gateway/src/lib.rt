@@ -1,5 +1,7 @@
 // The gateway: a cold start, a time alone, a packet, and why a packet was dropped. Tables and clock are lent by the caller, and a refused call
 // leaves them alone.
+#![tactic(auto)]
+
 ghost use Rattle.std.specs.Prelude.{false, ◌≡◌, ◌<◌, ◌≤◌, length};
 ghost use Rattle.sides.specs.Lists.{deciding_entry};
 ghost use Rattle.entries.specs.Entries.{written_of};

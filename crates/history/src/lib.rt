@@ -1,1 +1,2 @@
 // No code: what a run's history is, and what is fresh by it.
+#![tactic(auto)]

@@ -1,7 +1,7 @@
 -- What an arm of a `match` on a number knows, put to use: once for any keys.
 -- Assumes nothing.
 use mathlib.Core.Path.{◌≡◌, refl}
-use mathlib.Core.Bool.{true, false, or_true}
+use mathlib.Core.Bool.{true, false, or-true}
 use mathlib.Core.List.{List, [], ◌∷◌}
 use mathlib.Core.Logic.{inl, inr}
 use Prim.Native.Nat.{ℕ}
@@ -26,7 +26,7 @@ pub a_key : (ks : List ℕ) (n : ℕ) → OneOf ks n → among n ks ≡ true
 a_key [] n o = absurd o
 a_key (k ∷ []) n o = rw (eq-eqb n k o)
 a_key (k ∷ j ∷ ks) n (inl o) = rw (eq-eqb n k o)
-a_key (k ∷ j ∷ ks) n (inr o) = rw (a_key (j ∷ ks) n o) (or_true (eqb n k))
+a_key (k ∷ j ∷ ks) n (inr o) = rw (a_key (j ∷ ks) n o) (or-true (eqb n k))
 
 -- past an arm: the number is none of its keys
 pub no_key : (ks : List ℕ) (n : ℕ) → (OneOf ks n → ⊥) → among n ks ≡ false

@@ -1,1 +1,2 @@
 // No code: the definitions and lemmas that several crates cite, each stated once.
+#![tactic(auto)]

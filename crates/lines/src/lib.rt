@@ -1,5 +1,7 @@
 // The printing program's lines, put into lent room from a place on, and what they are made of: texts, numbers and addresses. A byte for which
 // there is no room is left out, and the answer is the place after the last byte that was put.
+#![tactic(auto)]
+
 ghost use Rattle.std.specs.Prelude.{◌≡◌, ◌∷◌, ◌++◌, nat_abs};
 ghost use Rattle.rulings.specs.Answers.{address_told};
 ghost use Rattle.lines.specs.Text.{space, dot, decimal, signed, dotted, or_dash};

@@ -1,1 +1,2 @@
 // No code: each public contract allows one outcome.
+#![tactic(auto)]

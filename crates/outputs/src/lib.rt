@@ -1,5 +1,7 @@
 // What a program that replays a capture puts out for each whole record, into lent room: a line, the record itself where it went through, or
 // why it was dropped.
+#![tactic(auto)]
+
 ghost use Rattle.std.specs.Prelude.{◌≡◌};
 ghost use Rattle.rulings.specs.Answers.{forwarded_told};
 ghost use Rattle.lines.specs.Room.{lent_room, left_room};

@@ -1,4 +1,6 @@
 // Reading a packet's headers: IPv4 (RFC 791), then TCP (RFC 9293) or UDP (RFC 768). Options and checksums are not looked at.
+#![tactic(auto)]
+
 ghost use Rattle.std.specs.Prelude.{◌≡◌, ◌+◌, ◌*◌, ◌%◌, ◌≤◌, min, length};
 ghost use Rattle.packet.specs.Header.{later, needed, header_refusal, with_ports, without_ports, transport_of, header_of, read_of};
 ghost use Rattle.packet.specs.Kinds.{port_of};

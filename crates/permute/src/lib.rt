@@ -1,4 +1,6 @@
 // The address permutation E, and its inverse.
+#![tactic(auto)]
+
 ghost use Rattle.std.specs.Prelude.{◌≡◌, ◌<◌};
 ghost use Rattle.permute.specs.Permutation.{box, SmallRow, boxes, inverses, nibbles, left11, right11, round, unround, E, D};
 

@@ -1,4 +1,6 @@
 // What the permutation places: the slot of a connection, the line and tag of an address, and the way back from line and tag.
+#![tactic(auto)]
+
 ghost use Rattle.std.specs.Prelude.{◌≡◌};
 ghost use Rattle.places.specs.Places.{slot_of, place_of, address_of};
 

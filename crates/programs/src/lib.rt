@@ -1,5 +1,7 @@
 // What the programs share that replay a capture: it is read on standard input, through fixed buffers, and what each record is due goes to
 // standard output before the next read, which may wait. What they decide is said in `turns`: here it is read, handed on and written.
+#![tactic(auto)]
+
 use libc::types::timespec;
 use libc::{STDERR_FILENO, STDOUT_FILENO};
 use outputs::Output;

@@ -1,4 +1,6 @@
 // Why a packet from the cell was dropped: which of four facts, changed alone, would have had it forwarded.
+#![tactic(auto)]
+
 ghost use Rattle.std.specs.Prelude.{false, ◌≡◌};
 ghost use Rattle.laws.specs.Choice.{at_some};
 ghost use Rattle.verdicts.specs.Verdicts.{is_forwarded, verdict_of};

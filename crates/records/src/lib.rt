@@ -1,4 +1,6 @@
 // Connection records: one byte each, with a mark for each direction and an age in minutes.
+#![tactic(auto)]
+
 ghost use Rattle.std.specs.Prelude.{◌≡◌, not, ◌&&◌, map, ◌+◌, ◌<◌, ◌≤◌, min, eqb, leb, length, get_or, take};
 ghost use Rattle.laws.specs.Search.{every, those_below};
 ghost use Rattle.records.specs.Records.{marks_of, record_of, aged_by};

@@ -1,4 +1,6 @@
 // The refusals 1 to 4: which number a call gives before any header is looked at, or 0.
+#![tactic(auto)]
+
 ghost use Rattle.std.specs.Prelude.{◌≡◌};
 ghost use Rattle.refusals.specs.Refusals.{start_refusal, time_refusal, early_refusal};
 

@@ -1,4 +1,6 @@
 // A capture's records, one after the other, judged by a gateway that is set up as document 01's printing program is.
+#![tactic(auto)]
+
 ghost use Rattle.std.specs.Prelude.{◌≡◌, ◌≤◌, length};
 ghost use Rattle.gateway.specs.Calls.{lent, left_state, left};
 ghost use Rattle.replay.specs.Replay.{program_settings, program_limits, program_placing, started_first, asked_of, judgement_of, stepped};

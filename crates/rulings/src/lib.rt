@@ -1,4 +1,6 @@
 // All that a packet of ours gets: its verdict, and what follows for its record and its cell address's count. Nothing here touches a table.
+#![tactic(auto)]
+
 ghost use Rattle.std.proofs.Math.Option.{none};
 ghost use Rattle.std.specs.Prelude.{◌≡◌};
 ghost use Rattle.rulings.specs.Rules.{rules_of};

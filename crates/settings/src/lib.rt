@@ -1,4 +1,6 @@
 // The settings of a gateway: their factory values, and refusal 1.
+#![tactic(auto)]
+
 ghost use Rattle.std.specs.Prelude.{◌≡◌};
 ghost use Rattle.settings.specs.Settings.{factory_settings, with_threshold, bad_limits};
 

@@ -1,5 +1,7 @@
 // Which side an address is on, by two side lists. A list has entries of five bytes: an address, most significant byte first, then a
 // prefix length.
+#![tactic(auto)]
+
 ghost use Rattle.std.specs.Prelude.{◌≡◌, ◌+◌, ◌*◌, ◌-◌, ◌<◌, ◌≤◌, length, get_or};
 ghost use Rattle.sides.specs.Lists.{bad_list, rank_at, best_in, best_of_two, entry_of, past, winner_of, winner_at, winning_of, entry_in, side_by, direction_of, direction_between};
 

@@ -1,7 +1,7 @@
 -- What refusal 2 leaves: tables that are not refused have 2 ^ a records and four times 2 ^ b entries, within their limits; and such
 -- tables are not refused.
 -- Assumes nothing.
-use mathlib.Core.Bool.{Bool, true, false, not, ◌||◌, or_true}
+use mathlib.Core.Bool.{Bool, true, false, not, ◌||◌, or-true}
 use mathlib.Core.List.{map}
 use mathlib.Core.Path.{◌≡◌, refl, sym, ap, ◌∙◌}
 use Prim.Native.Nat.{ℕ, zero, suc, ◌+◌, ◌*◌, ◌^◌, ◌≤◌, ◌<◌}
@@ -40,7 +40,7 @@ module _ (f : ℕ → ℕ) where
       rest n = among n (map f (powers_from (suc k) more))
 
       go : Which k a → (k < a → rest (f (2 ^ a)) ≡ true) → among (f (2 ^ a)) (map f (powers_from k (suc more))) ≡ true
-      go (below m) r = ap (λ (t : Bool). eqb (f (2 ^ a)) (f (2 ^ k)) || t) (r m) ∙ or_true (eqb (f (2 ^ a)) (f (2 ^ k)))
+      go (below m) r = ap (λ (t : Bool). eqb (f (2 ^ a)) (f (2 ^ k)) || t) (r m) ∙ or-true (eqb (f (2 ^ a)) (f (2 ^ k)))
       go (above m) r =
           let same : a ≡ k = omega arith in
           ap (λ (t : Bool). t || rest (f (2 ^ a))) (eq-eqb _ _ (ap (λ (n : ℕ). f (2 ^ n)) same))

@@ -1,4 +1,6 @@
 // The tally of verdicts, by value. The one function over a tally that the caller lends is the library's, `embed::spritgrommet_tally`.
+#![tactic(auto)]
+
 ghost use Rattle.std.specs.Prelude.{◌≡◌};
 ghost use Rattle.rulings.specs.Answers.{verdict_told};
 ghost use Rattle.tally.specs.Tally.{empty_tally, one_more, tallied, verdict_numbered};

@@ -1,5 +1,7 @@
 // What a program that replays a capture decides in a turn: when it reads, when it goes on, what it says at the end, and where. Who reads and
 // writes asks here, and does as it is told.
+#![tactic(auto)]
+
 ghost use Rattle.std.specs.Prelude.{◌≡◌};
 ghost use Rattle.capture.specs.Capture.{opened_of};
 ghost use Rattle.gateway.specs.Calls.{lent, left_state};

@@ -1,4 +1,6 @@
 // Which verdict a packet of ours gets, and what that makes of its record.
+#![tactic(auto)]
+
 ghost use Rattle.std.specs.Prelude.{not, ◌||◌, ◌≡◌};
 ghost use Rattle.verdicts.specs.Verdicts.{number_of, is_forwarded, is_counted, is_closing, is_syn_ack, is_udp, is_opening, unless_closing, from_the_plant, from_the_cell, from_blocked_cell, verdict_of, marks_after, record_after};
 

@@ -1,5 +1,7 @@
 // Document 02, K4: reads a capture on standard input, and says why each dropped record was dropped, or says it of the one record whose number
 // is its argument.
+#![tactic(auto)]
+
 use libc::STDERR_FILENO;
 use outputs::Output;
 

@@ -1,5 +1,7 @@
 // Numbers made of bytes, and bytes of numbers, in either byte order. Where the bytes are not all there, the number is 0; where they have
 // no room, none is stored.
+#![tactic(auto)]
+
 ghost use Rattle.std.specs.Prelude.{true, ◌≡◌, ◌+◌, leb};
 ghost use Rattle.words.specs.Words.{of_two, of_four, two_at, four_at, two_in, four_in, whole, two_bytes, four_bytes, stored};
 
