@@ -1,0 +1,34 @@
+-- `counts::decay_all` meets its contract: one sweep, and none where there is nothing to take.
+-- Assumes nothing.
+use mathlib.Core.Path.{sym, ap, ◌∙◌}
+use Prim.Native.Nat.{◌-◌}
+use native.Mathlib.Omega.{arith}
+use lib.IntN.{pos}
+use lib.ListN.{length}
+use mir.Syntax.{w16}
+use mir.ValLaws.{to_z-of_z}
+use borrow.Author.Rules.{rules}
+use Rattle.laws.proofs.Sweep.{Sweeping, sweep_start, sweep_turn, sweep_end, map_none}
+use Rattle.counts.proofs.Counts.{decayed_none}
+use Rattle.counts.specs.Counts.{decayed_by}
+use Rattle.counts.proofs.decay_all.Goals as goal
+
+pub returns-then-points-eq0 : goal.returns-then-points-eq0
+returns-then-points-eq0 c =
+    sym (map_none decayed_by decayed_none c.args.points c.if-points-eq0.true c.args.counts.now)
+
+pub loop-i-init : goal.loop-i-init
+loop-i-init c = sweep_start _ _
+
+pub loop-i-preserved : goal.loop-i-preserved
+loop-i-preserved c =
+    sweep_turn (pos 0) _ c.loop-i.invariant c.loop-i-test.true
+    (to_z-of_z w16 _ (record { sfits = c.decayed.type_inv })
+    ∙ c.decayed.ensures
+    ∙ ap (decayed_by c.args.points) (to_z-of_z w16 _ (record { sfits = c.decayed-arg-1.given })))
+
+pub shape_of-counts : goal.shape_of-counts
+shape_of-counts c = c.loop-i.invariant.long
+
+pub returns : goal.returns
+returns c = sweep_end c.loop-i.invariant c.loop-i-test.false

@@ -1,0 +1,11 @@
+-- `permute::backward` meets its contract. The loop's invariant: y with r rounds still to undo gives the word with all eight undone.
+use Rattle.std.proofs.Common.{◌≡◌, suc, ◌-◌, ◌≤◌, refl, arith, rules}
+use Rattle.permute.specs.Permutation.{unrounds, D}
+use Rattle.permute.proofs.Tables.{inverses_small}
+use Rattle.permute.proofs.backward.Given as goal
+
+abbrev pub invariant-loop-r : goal.invariant-loop-r
+invariant-loop-r l = (l.r ≤ 8) × (unrounds l.r l.keys l.y ≡ D l.keys l.word)
+
+abbrev pub decreases-loop-r : goal.decreases-loop-r
+decreases-loop-r l = l.r

@@ -1,0 +1,14 @@
+-- `records::age_parts` meets its contract: part after part.
+use Prim.Native.Nat.{◌-◌}
+use native.Mathlib.Omega.{arith}
+use lib.ListN.{length}
+use borrow.Author.Rules.{rules}
+use Rattle.laws.proofs.Sweep.{Sweeping, sweep_start, sweep_part, sweep_end}
+use Rattle.records.specs.Records.{aged_by}
+use Rattle.records.proofs.age_parts.Given as goal
+
+abbrev pub invariant-loop-at : goal.invariant-loop-at
+invariant-loop-at l = Sweeping (aged_by l.dconn l.minutes) l.initial.records l.records l.at
+
+abbrev pub decreases-loop-at : goal.decreases-loop-at
+decreases-loop-at l = length l.initial.records - l.at

@@ -1,0 +1,15 @@
+-- `records::all_between` meets its contract: one test of each.
+use Prim.Native.Nat.{◌-◌}
+use native.Mathlib.Omega.{arith}
+use mathlib.Core.Bool.{◌&&◌}
+use lib.Dec.{leb}
+use lib.ListN.{length, get_or}
+use borrow.Author.Rules.{rules}
+use Rattle.laws.proofs.Search.{Testing, test_start, test_turn, test_end}
+use Rattle.records.proofs.all_between.Given as goal
+
+abbrev pub invariant-loop-i : goal.invariant-loop-i
+invariant-loop-i l = Testing (length l.records) (λ slot. leb l.least (get_or l.records slot 0) && leb (get_or l.records slot 0) l.most) l.all l.i
+
+abbrev pub decreases-loop-i : goal.decreases-loop-i
+decreases-loop-i l = length l.records - l.i
