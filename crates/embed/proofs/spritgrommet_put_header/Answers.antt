@@ -7,5 +7,5 @@ use borrow.Author.Rules.{rules}
 use Rattle.embed.proofs.spritgrommet_put_header.Goals as goal
 
 pub returns : goal.returns
-returns c = ap (λ (answer : PlainWritten). plain_put_of answer c.put_header.new.0) c.of_written.ensures
+returns c = ap (λ (answer : PlainWritten). plain_put_of answer c.put_header.new.room) c.of_written.ensures
     ∙ ap plain_put c.put_header.ensures

@@ -7,5 +7,5 @@ use borrow.Author.Rules.{rules}
 use Rattle.embed.proofs.spritgrommet_put_record.Goals as goal
 
 pub returns : goal.returns
-returns c = ap (λ (answer : PlainWritten). plain_put_of answer c.put_record-written.new.0) c.of_written.ensures
+returns c = ap (λ (answer : PlainWritten). plain_put_of answer c.put_record-written.new.room) c.of_written.ensures
     ∙ ap plain_put c.put_record-written.ensures

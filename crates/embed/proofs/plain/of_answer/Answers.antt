@@ -12,11 +12,4 @@ pub returns-in-NotOurs : goal.returns-in-NotOurs
 returns-in-NotOurs c = rw c.in-NotOurs.is
 
 pub returns-in-Judged : goal.returns-in-Judged
-returns-in-Judged c =
-    let judged = c.answer-in-Judged-1.given in
-    rw (
-      judged.1,
-      c.of_judged.ensures,
-      c.number.ensures,
-      to_z-of_z w16 judged.0.1.0 (record { sfits = c.known_told-in-Judged-1.given.1.0.1 }),
-    )
+returns-in-Judged c = let h = c.in-Judged.known_told-in-Judged-1-own in ?
