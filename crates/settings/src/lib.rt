@@ -41,10 +41,10 @@ impl Settings {
     // The factory settings, with keys all zero.
     pub fn factory() -> Settings
         ensures values { result ≡ factory_settings }
-        ensures* threshold { do ⌜ (← (⟦Settings::T⟧).entry) ≡ result.limits.threshold ⌝ }
-        ensures* floor { do ⌜ (← (⟦Settings::CMIN⟧).entry) ≡ result.limits.floor ⌝ }
-        ensures* dmiss { do ⌜ (← (⟦Settings::DMISS⟧).entry) ≡ result.limits.dmiss ⌝ }
-        ensures* dconn { do ⌜ (← (⟦Settings::DCONN⟧).entry) ≡ result.limits.dconn ⌝ }
+        ensures threshold { Self.T ≡ result.limits.threshold }
+        ensures floor { Self.CMIN ≡ result.limits.floor }
+        ensures dmiss { Self.DMISS ≡ result.limits.dmiss }
+        ensures dconn { Self.DCONN ≡ result.limits.dconn }
     {
         Settings {
             keys: [0; 8],

@@ -46,6 +46,12 @@ module _ (bytes : List ℕ) (at : ℕ) (room : List ℕ) where
   all_at_front part h = rw (le-leb (0 + length bytes) (length part) (omega (arith, h)))
 
   -- as the code has it: the part of the room is written over
+  pub stored_over : (end : ℕ) → at + length bytes ≤ length room → end ≡ at + length bytes → put_mid at (end - at) room bytes ≡ stored bytes at room
+  stored_over end h e =
+      let size : end - at ≡ length bytes = omega arith in
+      rw (size, drop-drop (length bytes) at room) (sym (all_stored h))
+
+  -- and what of the part they leave: nothing
   pub stored_in_part : (end : ℕ) → at + length bytes ≤ length room → end ≡ at + length bytes
       → put_mid at (end - at) room (take (length bytes) bytes ++ drop (length bytes) (mid_of at (end - at) room)) ≡ stored bytes at room
   stored_in_part end h e =

@@ -83,7 +83,7 @@ pub fn store(room: &mut [u8], at: usize, source: &[u8])
 {
     if has_room(room.len(), at, source.len()) {
         let end = at + source.len();
-        bytes::copy(source, &mut room[at..end]);
+        room[at..end].copy_from_slice(source);
     }
 }
 

@@ -1,13 +1,12 @@
 -- `arguments::record_number` meets its contract. So many digits were read; the measure is how many are left.
 -- Assumes nothing.
-use Prim.Native.Nat.{◌-◌, ◌^◌, ◌≤◌, ◌<◌}
-use lib.ListN.{length, get_or, drop}
-use mathlib.Core.Path.{◌≡◌, refl, sym, ◌∙◌}
+use Prim.Native.Nat.{◌-◌}
+use lib.ListN.{get_or}
+use mathlib.Core.Path.{refl, sym, ◌∙◌}
 use native.Mathlib.Omega.{arith}
 use borrow.Author.Tests.{lt-ltb, le-ltb}
-use Rattle.arguments.specs.Arguments.{number_from, record_number}
+use Rattle.arguments.specs.Arguments.{record_number}
 use Rattle.arguments.proofs.Numbers.{digit_range, fits_more, number_next, number_stops, number_ends}
-use borrow.Author.Rules.{rules}
 use Rattle.arguments.proofs.record_number.Goals as goal
 
 pub returns-then-bytes-gt19 : goal.returns-then-bytes-gt19

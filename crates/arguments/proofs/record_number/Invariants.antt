@@ -1,12 +1,8 @@
 -- `arguments::record_number` meets its contract. So many digits were read; the measure is how many are left.
 use Prim.Native.Nat.{◌-◌, ◌^◌, ◌≤◌, ◌<◌}
-use lib.ListN.{length, get_or, drop}
-use mathlib.Core.Path.{◌≡◌, refl, sym, ◌∙◌}
-use native.Mathlib.Omega.{arith}
-use borrow.Author.Tests.{lt-ltb, le-ltb}
-use Rattle.arguments.specs.Arguments.{number_from, record_number}
-use Rattle.arguments.proofs.Numbers.{digit_range, fits_more, number_next, number_stops, number_ends}
-use borrow.Author.Rules.{rules}
+use lib.ListN.{length, drop}
+use mathlib.Core.Path.{◌≡◌}
+use Rattle.arguments.specs.Arguments.{number_from}
 use Rattle.arguments.proofs.record_number.Given as goal
 
 abbrev pub invariant-loop-done : goal.invariant-loop-done

@@ -1,14 +1,10 @@
 -- `counts::decay_all` meets its contract: one sweep, and none where there is nothing to take.
 -- Assumes nothing.
 use mathlib.Core.Path.{sym, ap, ◌∙◌}
-use Prim.Native.Nat.{◌-◌}
-use native.Mathlib.Omega.{arith}
 use lib.IntN.{pos}
-use lib.ListN.{length}
 use mir.Syntax.{w16}
 use mir.ValLaws.{to_z-of_z}
-use borrow.Author.Rules.{rules}
-use Rattle.laws.proofs.Sweep.{Sweeping, sweep_start, sweep_turn, sweep_end, map_none}
+use Rattle.laws.proofs.Sweep.{sweep_start, sweep_turn, sweep_end, map_none}
 use Rattle.counts.proofs.Counts.{decayed_none}
 use Rattle.counts.specs.Counts.{decayed_by}
 use Rattle.counts.proofs.decay_all.Goals as goal

@@ -3,7 +3,6 @@
 use mathlib.Core.Path.{◌∙◌}
 use mir.Syntax.{w16}
 use mir.ValLaws.{to_z-of_z}
-use borrow.Author.Rules.{rules}
 use Rattle.counts.proofs.Counts.{in_steps}
 use Rattle.counts.proofs.decayed.Goals as goal
 

@@ -3,7 +3,6 @@
 use mir.Syntax.{w16}
 use mir.Val.{to_z, of_z}
 use mir.ValLaws.{to_z_pos}
-use borrow.Author.Rules.{rules}
 use Rattle.laws.proofs.Signed.{signed, known, size, not_neg, eq_in}
 use Rattle.counts.proofs.Counts.{fell}
 use Rattle.counts.proofs.fallen.Goals as goal

@@ -1,7 +1,6 @@
 -- `counts::is_blocked` meets its contract: threshold and count are the same numbers in 32 bits.
 -- Assumes nothing.
 use Rattle.counts.proofs.Counts.{wider, wide_is}
-use borrow.Author.Rules.{rules}
 use lib.Signed.{le_z}
 use mir.Syntax.{w32}
 use mir.ValLaws.{to_z_pos}

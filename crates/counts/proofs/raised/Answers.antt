@@ -6,7 +6,6 @@ use lib.IntN.{pos, ◌+ℤ◌}
 use mir.Syntax.{w16, w32}
 use mir.Val.{to_z, of_z}
 use mir.ValLaws.{to_z-of_z}
-use borrow.Author.Rules.{rules}
 use Rattle.laws.proofs.Signed.{signed, sum_is, sfits_out, known, le_z_yes, le_z_no}
 use Rattle.laws.proofs.Tests.{cond_at}
 use Rattle.counts.specs.Counts.{larger, raised_by}

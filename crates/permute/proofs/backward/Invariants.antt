@@ -1,7 +1,6 @@
 -- `permute::backward` meets its contract. The loop's invariant: y with r rounds still to undo gives the word with all eight undone.
-use Rattle.std.proofs.Common.{◌≡◌, suc, ◌-◌, ◌≤◌, refl, arith, rules}
+use Rattle.std.proofs.Common.{◌≡◌, ◌≤◌}
 use Rattle.permute.specs.Permutation.{unrounds, D}
-use Rattle.permute.proofs.Tables.{inverses_small}
 use Rattle.permute.proofs.backward.Given as goal
 
 abbrev pub invariant-loop-r : goal.invariant-loop-r

@@ -1,6 +1,6 @@
 -- `permute::forward` meets its contract. The loop's invariant: y is the word after the first r rounds.
 -- Assumes nothing.
-use Rattle.std.proofs.Common.{◌≡◌, ◌-◌, ◌≤◌, refl, add-one, arith, rules}
+use Rattle.std.proofs.Common.{◌≡◌, refl, add-one, arith, rules}
 use Rattle.permute.specs.Permutation.{rounds, E}
 use Rattle.permute.proofs.Tables.{boxes_small}
 use Rattle.permute.proofs.forward.Goals as goal

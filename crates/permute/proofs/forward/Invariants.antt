@@ -1,7 +1,6 @@
 -- `permute::forward` meets its contract. The loop's invariant: y is the word after the first r rounds.
-use Rattle.std.proofs.Common.{◌≡◌, ◌-◌, ◌≤◌, refl, add-one, arith, rules}
-use Rattle.permute.specs.Permutation.{rounds, E}
-use Rattle.permute.proofs.Tables.{boxes_small}
+use Rattle.std.proofs.Common.{◌≡◌, ◌-◌, ◌≤◌}
+use Rattle.permute.specs.Permutation.{rounds}
 use Rattle.permute.proofs.forward.Given as goal
 
 abbrev pub invariant-loop-r : goal.invariant-loop-r

@@ -6,9 +6,8 @@ use Rattle.permute.proofs.Nibbles.{four}
 use Rattle.permute.proofs.half.Goals as goal
 
 pub returns : goal.returns
-returns c =
-    (
-      rw (c.image.ensures.0, c.image-2.ensures.0, c.image-3.ensures.0, c.image-4.ensures.0)
-          (four (box c.args.table.now c.args.r) c.args.word),
-      search rules,
-    )
+returns c = (
+  rw (c.image.ensures.0, c.image-2.ensures.0, c.image-3.ensures.0, c.image-4.ensures.0)
+      (four (box c.args.table.now c.args.r) c.args.word),
+  search rules,
+)

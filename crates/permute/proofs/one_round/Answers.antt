@@ -1,6 +1,5 @@
 -- `permute::one_round` meets its contract: the round, step by step.
 -- Assumes nothing.
-use Rattle.std.proofs.Common.{rules}
 use Rattle.permute.specs.Permutation.{round}
 use Rattle.permute.proofs.one_round.Goals as goal
 

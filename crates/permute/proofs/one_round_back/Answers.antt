@@ -1,6 +1,6 @@
 -- `permute::one_round_back` meets its contract: the round undone, step by step.
 -- Assumes nothing.
-use Rattle.std.proofs.Common.{◌≡◌, ℕ, ◌+◌, ◌-◌, ◌%◌, ◌^◌, ◌<◌, arith, rules}
+use Rattle.std.proofs.Common.{◌≡◌, ℕ, ◌+◌, ◌-◌, ◌%◌, ◌^◌, ◌<◌, arith}
 use Rattle.permute.specs.Permutation.{unround}
 use Rattle.permute.proofs.one_round_back.Goals as goal
 

@@ -1,6 +1,5 @@
 -- `permute::substituted` meets its contract: a word is its two halves.
 -- Assumes nothing.
-use Rattle.std.proofs.Common.{rules}
 use Rattle.permute.specs.Permutation.{box}
 use Rattle.permute.proofs.Nibbles.{halves}
 use Rattle.permute.proofs.substituted.Goals as goal

@@ -4,7 +4,6 @@ use mathlib.Core.Path.{sym}
 use Prim.Native.Nat.{◌/◌}
 use native.Mathlib.Omega.{arith}
 use lib.ListN.{length}
-use borrow.Author.Rules.{rules}
 use Rattle.laws.proofs.Sweep.{sweep_start, sweep_part, sweep_end, map_none}
 use Rattle.records.proofs.Ages.{aged_none}
 use Rattle.records.specs.Records.{aged_by}

@@ -1,11 +1,6 @@
 -- `records::age_each` meets its contract: one sweep.
 -- Assumes nothing.
-use Prim.Native.Nat.{◌-◌}
-use native.Mathlib.Omega.{arith}
-use lib.ListN.{length}
-use borrow.Author.Rules.{rules}
-use Rattle.laws.proofs.Sweep.{Sweeping, sweep_start, sweep_turn, sweep_end}
-use Rattle.records.specs.Records.{aged_by}
+use Rattle.laws.proofs.Sweep.{sweep_start, sweep_turn, sweep_end}
 use Rattle.records.proofs.age_each.Goals as goal
 
 pub loop-i-init : goal.loop-i-init

@@ -1,9 +1,7 @@
 -- `records::age_each` meets its contract: one sweep.
 use Prim.Native.Nat.{◌-◌}
-use native.Mathlib.Omega.{arith}
 use lib.ListN.{length}
-use borrow.Author.Rules.{rules}
-use Rattle.laws.proofs.Sweep.{Sweeping, sweep_start, sweep_turn, sweep_end}
+use Rattle.laws.proofs.Sweep.{Sweeping}
 use Rattle.records.specs.Records.{aged_by}
 use Rattle.records.proofs.age_each.Given as goal
 

@@ -1,11 +1,7 @@
 -- `records::age_into` meets its contract: one image after the other.
 -- Assumes nothing.
-use Prim.Native.Nat.{◌-◌}
 use native.Mathlib.Omega.{arith}
-use lib.ListN.{length}
-use borrow.Author.Rules.{rules}
-use Rattle.laws.proofs.Places.{Imaging, image_start, image_turn, image_end}
-use Rattle.records.specs.Records.{aged_by}
+use Rattle.laws.proofs.Places.{image_start, image_turn, image_end}
 use Rattle.records.proofs.age_into.Goals as goal
 
 pub loop-i-init : goal.loop-i-init

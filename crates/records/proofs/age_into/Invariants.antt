@@ -1,9 +1,7 @@
 -- `records::age_into` meets its contract: one image after the other.
 use Prim.Native.Nat.{◌-◌}
-use native.Mathlib.Omega.{arith}
 use lib.ListN.{length}
-use borrow.Author.Rules.{rules}
-use Rattle.laws.proofs.Places.{Imaging, image_start, image_turn, image_end}
+use Rattle.laws.proofs.Places.{Imaging}
 use Rattle.records.specs.Records.{aged_by}
 use Rattle.records.proofs.age_into.Given as goal
 

@@ -19,7 +19,7 @@ returns-then-all_between c =
 pub store_at-requires : goal.store_at-requires
 store_at-requires c =
     let whole : c.list_places-listed.result - 0 ≡ c.list_places-listed.result = omega arith in
-    (search rules, ap (λ (k : ℕ). take k c.list_places-listed.new.1.1.0) whole ∙ c.list_places-listed.ensures.1)
+    (search rules, ap (λ (k : ℕ). take k c.list_places-listed.new.places) whole ∙ c.list_places-listed.ensures.1)
 
 pub returns : goal.returns
 returns c =

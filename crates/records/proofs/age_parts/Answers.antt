@@ -1,11 +1,7 @@
 -- `records::age_parts` meets its contract: part after part.
 -- Assumes nothing.
-use Prim.Native.Nat.{◌-◌}
 use native.Mathlib.Omega.{arith}
-use lib.ListN.{length}
-use borrow.Author.Rules.{rules}
-use Rattle.laws.proofs.Sweep.{Sweeping, sweep_start, sweep_part, sweep_end}
-use Rattle.records.specs.Records.{aged_by}
+use Rattle.laws.proofs.Sweep.{sweep_start, sweep_part, sweep_end}
 use Rattle.records.proofs.age_parts.Goals as goal
 
 pub loop-at-init : goal.loop-at-init

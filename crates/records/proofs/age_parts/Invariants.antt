@@ -1,9 +1,7 @@
 -- `records::age_parts` meets its contract: part after part.
 use Prim.Native.Nat.{◌-◌}
-use native.Mathlib.Omega.{arith}
 use lib.ListN.{length}
-use borrow.Author.Rules.{rules}
-use Rattle.laws.proofs.Sweep.{Sweeping, sweep_start, sweep_part, sweep_end}
+use Rattle.laws.proofs.Sweep.{Sweeping}
 use Rattle.records.specs.Records.{aged_by}
 use Rattle.records.proofs.age_parts.Given as goal
 

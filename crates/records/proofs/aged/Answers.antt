@@ -3,7 +3,6 @@
 use Prim.Native.Nat.{ℕ}
 use Rattle.records.proofs.Ages.{aged_none, in_bytes}
 use Rattle.records.specs.Records.{aged_by}
-use borrow.Author.Rules.{rules}
 use mathlib.Core.Path.{sym, ap, ◌∙◌}
 use Rattle.records.proofs.aged.Goals as goal
 

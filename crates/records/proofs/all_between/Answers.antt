@@ -1,12 +1,6 @@
 -- `records::all_between` meets its contract: one test of each.
 -- Assumes nothing.
-use Prim.Native.Nat.{◌-◌}
-use native.Mathlib.Omega.{arith}
-use mathlib.Core.Bool.{◌&&◌}
-use lib.Dec.{leb}
-use lib.ListN.{length, get_or}
-use borrow.Author.Rules.{rules}
-use Rattle.laws.proofs.Search.{Testing, test_start, test_turn, test_end}
+use Rattle.laws.proofs.Search.{test_start, test_turn, test_end}
 use Rattle.records.proofs.all_between.Goals as goal
 
 pub loop-i-init : goal.loop-i-init

@@ -1,11 +1,9 @@
 -- `records::all_between` meets its contract: one test of each.
 use Prim.Native.Nat.{◌-◌}
-use native.Mathlib.Omega.{arith}
 use mathlib.Core.Bool.{◌&&◌}
 use lib.Dec.{leb}
 use lib.ListN.{length, get_or}
-use borrow.Author.Rules.{rules}
-use Rattle.laws.proofs.Search.{Testing, test_start, test_turn, test_end}
+use Rattle.laws.proofs.Search.{Testing}
 use Rattle.records.proofs.all_between.Given as goal
 
 abbrev pub invariant-loop-i : goal.invariant-loop-i

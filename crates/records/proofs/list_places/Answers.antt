@@ -1,12 +1,10 @@
 -- `records::list_places` meets its contract: every place is written down, and kept where both differ.
 -- Assumes nothing.
 use mathlib.Core.Bool.{not}
-use Prim.Native.Nat.{◌-◌}
 use native.Mathlib.Omega.{arith}
 use lib.Dec.{eqb}
-use lib.ListN.{length, get_or}
-use borrow.Author.Rules.{rules}
-use Rattle.laws.proofs.Places.{Listing, list_start, list_turn, list_end, one_at_most}
+use lib.ListN.{get_or}
+use Rattle.laws.proofs.Places.{list_start, list_turn, list_end, one_at_most}
 use Rattle.records.proofs.list_places.Goals as goal
 
 pub loop-place-init : goal.loop-place-init

@@ -1,11 +1,9 @@
 -- `records::list_places` meets its contract: every place is written down, and kept where both differ.
 use mathlib.Core.Bool.{not}
 use Prim.Native.Nat.{◌-◌}
-use native.Mathlib.Omega.{arith}
 use lib.Dec.{eqb}
 use lib.ListN.{length, get_or}
-use borrow.Author.Rules.{rules}
-use Rattle.laws.proofs.Places.{Listing, list_start, list_turn, list_end, one_at_most}
+use Rattle.laws.proofs.Places.{Listing}
 use Rattle.records.proofs.list_places.Given as goal
 
 abbrev pub invariant-loop-place : goal.invariant-loop-place

@@ -1,7 +1,6 @@
 -- `records::older` meets its contract: unmarked, too old, or so many minutes older.
 -- Assumes nothing.
 use Rattle.records.proofs.Ages.{low_is_cold, high_is_marked, aged_cold, aged_kept, aged_old}
-use borrow.Author.Rules.{rules}
 use mathlib.Core.Path.{sym}
 use native.Mathlib.Omega.{arith}
 use Rattle.records.proofs.older.Goals as goal

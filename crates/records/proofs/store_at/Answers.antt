@@ -1,14 +1,10 @@
 -- `records::store_at` meets its contract: one listed place after the other, and between them nothing differs.
 -- Assumes nothing.
 use mathlib.Core.Path.{refl}
-use mathlib.Core.Bool.{not}
-use Prim.Native.Nat.{◌-◌}
 use native.Mathlib.Omega.{arith}
 use lib.Dec.{eqb}
-use lib.ListN.{length}
-use borrow.Author.Rules.{rules}
 use borrow.Author.Tests.{not-false, eqb-true}
-use Rattle.laws.proofs.Places.{Storing, store_start, store_within, store_turn, store_end}
+use Rattle.laws.proofs.Places.{store_start, store_within, store_turn, store_end}
 use Rattle.records.proofs.store_at.Goals as goal
 
 pub loop-i-init : goal.loop-i-init

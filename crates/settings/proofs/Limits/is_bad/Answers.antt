@@ -2,12 +2,8 @@
 -- Assumes nothing.
 use borrow.Author.Rules.{rules}
 use Rattle.settings.specs.Settings.{bad_limits}
-use Rattle.settings.proofs.Limits.is_bad.Statement.{statement}
-use Rattle.settings.proofs.Limits.is_bad.Tie as tie
+use Rattle.settings.proofs.Limits.is_bad.Goals as goal
 
-returns : tie.Need-returns
+pub returns : goal.returns
 unfolding bad_limits
 returns c = search rules
-
-pub is-bad-spec : {M : Type 1} → statement M
-is-bad-spec = tie.close (tie.spec returns)
