@@ -11,7 +11,7 @@ use std::io::Write;
 const CLOCK: u32 = 100;
 
 // Of tables, side lists and packet a trial has the length that is lent; of each list the prefix length of its first entry too.
-#[derive(Drop)]
+#[derive(Clone, Copy)]
 pub struct Trial {
     pub limits: Limits,
     pub records: usize,
