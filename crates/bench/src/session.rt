@@ -98,12 +98,10 @@ fn judge_turns<W: Write>(
     clock: &mut u32,
 ) -> io::Result<Tally> {
     let mut tally = Tally::empty();
-    let mut turn = from;
-    while turn < to {
+    for turn in from..to {
         let answer = judge(placing, turn, records, tags, counts, clock);
         print_turn(out, turn, answer)?;
         tally = tally.with(answer);
-        turn += 1;
     }
     Ok(tally)
 }

@@ -105,10 +105,8 @@ fn side_list(high: u8, low: u8, prefix: u8) -> [u8; 325] {
 // record, and a cold start or a minute clears one without marks. What was not lent is looked at too.
 fn is_kept(records: [u8; 32], tags: [u32; 32], counts: [i16; 32], clock: u32) -> bool {
     let mut kept = clock == CLOCK;
-    let mut i = 0usize;
-    while i < 32 {
+    for i in 0..32 {
         kept = kept & (records[i] == 9) & (tags[i] == 7) & (counts[i] == 5);
-        i += 1;
     }
     kept
 }
