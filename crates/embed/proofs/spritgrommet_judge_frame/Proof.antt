@@ -3,7 +3,7 @@
 use mathlib.Core.Path.{sym, ap, ◌∙◌}
 use Rattle.gateway.specs.Calls.{state_of}
 use Rattle.rulings.specs.Rules.{rules_of}
-use Rattle.frames.proofs.Cases.{has_header, by_inside, all_from}
+use Rattle.frames.proofs.Cases.{has_header, by_inside_lem, all_from}
 use Rattle.embed.specs.Plain.{plainly, plain_answer}
 use borrow.Author.Rules.{rules}
 use Rattle.embed.proofs.spritgrommet_judge_frame.Statement.{statement}
@@ -44,7 +44,7 @@ returns c =
     let s = c.before.before.before.before.before.before.before.before.before in
     rw c.of-answer.ensures
     (ap (plainly plain_answer)
-    (by_inside s.args.frame.now (rules_of s.args.limits) s.args.limits s.args.cell.now s.args.plant.now s.args.time
+    (by_inside_lem s.args.frame.now (rules_of s.args.limits) s.args.limits s.args.cell.now s.args.plant.now s.args.time
     (state_of s.args.placing s.args.records.now s.args.tags.now s.args.counts.now s.args.clock.now)
     (sym c.before.enum_told.given.1 ∙ c.before.before.before.what-is-in.ensures)))
 
@@ -64,7 +64,7 @@ returns-2 c =
     let s = t.before.before.before.before.before.before.before.before in
     (rw (all_from 14 s.args.frame.now) at j.spritgrommet-judge.ensures) ∙
     (ap (plainly plain_answer)
-    (by_inside s.args.frame.now (rules_of s.args.limits) s.args.limits s.args.cell.now s.args.plant.now s.args.time
+    (by_inside_lem s.args.frame.now (rules_of s.args.limits) s.args.limits s.args.cell.now s.args.plant.now s.args.time
     (state_of s.args.placing s.args.records.now s.args.tags.now s.args.counts.now s.args.clock.now)
     (sym t.enum-told2.given.1 ∙ t.before.before.what-is-in.ensures)))
 
@@ -73,7 +73,7 @@ returns-3 c =
     let s = c.before.before.before.before.before.before.before.before.before in
     rw c.of-answer2.ensures
     (ap (plainly plain_answer)
-    (by_inside s.args.frame.now (rules_of s.args.limits) s.args.limits s.args.cell.now s.args.plant.now s.args.time
+    (by_inside_lem s.args.frame.now (rules_of s.args.limits) s.args.limits s.args.cell.now s.args.plant.now s.args.time
     (state_of s.args.placing s.args.records.now s.args.tags.now s.args.counts.now s.args.clock.now)
     (sym c.before.enum-told3.given.1 ∙ c.before.before.before.what-is-in.ensures)))
 

@@ -3,7 +3,7 @@
 use mathlib.Core.Path.{sym, ◌∙◌}
 use Rattle.gateway.specs.Calls.{state_of}
 use Rattle.rulings.specs.Rules.{rules_of}
-use Rattle.frames.proofs.Cases.{has_header, by_inside, all_from}
+use Rattle.frames.proofs.Cases.{has_header, by_inside_lem, all_from}
 use borrow.Author.Rules.{rules}
 use Rattle.frames.proofs.judge.Statement.{statement}
 use Rattle.frames.proofs.judge.Tie as tie
@@ -35,7 +35,7 @@ enum-told-3 c = search rules
 returns : tie.Need-returns
 returns c =
     let s = c.before.before.before.before.before.before.before.before in
-    by_inside s.args.frame.now (rules_of s.args.limits) s.args.limits s.args.cell.now s.args.plant.now s.args.time
+    by_inside_lem s.args.frame.now (rules_of s.args.limits) s.args.limits s.args.cell.now s.args.plant.now s.args.time
     (state_of s.args.placing s.args.records.now s.args.tags.now s.args.counts.now s.args.clock.now)
     (sym c.enum_told.given.1 ∙ c.before.before.what-is-in.ensures)
 
@@ -54,14 +54,14 @@ returns-2 c =
     let t = j.before.before.before.before.before.before in
     let s = t.before.before.before.before.before.before.before.before in
     (rw (all_from 14 s.args.frame.now) at j.judge.ensures)
-    ∙ by_inside s.args.frame.now (rules_of s.args.limits) s.args.limits s.args.cell.now s.args.plant.now s.args.time
+    ∙ by_inside_lem s.args.frame.now (rules_of s.args.limits) s.args.limits s.args.cell.now s.args.plant.now s.args.time
     (state_of s.args.placing s.args.records.now s.args.tags.now s.args.counts.now s.args.clock.now)
     (sym t.enum-told2.given.1 ∙ t.before.before.what-is-in.ensures)
 
 returns-3 : tie.Need-returns-3
 returns-3 c =
     let s = c.before.before.before.before.before.before.before.before in
-    by_inside s.args.frame.now (rules_of s.args.limits) s.args.limits s.args.cell.now s.args.plant.now s.args.time
+    by_inside_lem s.args.frame.now (rules_of s.args.limits) s.args.limits s.args.cell.now s.args.plant.now s.args.time
     (state_of s.args.placing s.args.records.now s.args.tags.now s.args.counts.now s.args.clock.now)
     (sym c.enum-told3.given.1 ∙ c.before.before.what-is-in.ensures)
 

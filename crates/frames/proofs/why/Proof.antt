@@ -4,7 +4,7 @@ use mathlib.Core.Path.{sym, ◌∙◌}
 use borrow.Author.Rules.{rules}
 use Rattle.gateway.specs.Calls.{state_of}
 use Rattle.rulings.specs.Rules.{rules_of}
-use Rattle.frames.proofs.Cases.{has_header, why_inside, all_from}
+use Rattle.frames.proofs.Cases.{has_header, why_inside_lem, all_from}
 use Rattle.frames.proofs.why.Statement.{statement}
 use Rattle.frames.proofs.why.Tie as tie
 
@@ -36,7 +36,7 @@ returns : tie.Need-returns
 returns c =
     let w = c.before.before in
     let s = w.before.before.before.before.before.before in
-    why_inside s.args.frame.now (rules_of s.args.limits) s.args.limits s.args.cell.now s.args.plant.now s.args.time
+    why_inside_lem s.args.frame.now (rules_of s.args.limits) s.args.limits s.args.cell.now s.args.plant.now s.args.time
     (state_of s.args.placing s.args.records.now s.args.tags.now s.args.counts.now s.args.clock.now)
     (sym c.enum_told.given.1 ∙ w.what-is-in.ensures)
 
@@ -46,7 +46,7 @@ returns-2 c =
     let w = t.before.before in
     let s = w.before.before.before.before.before.before in
     (rw (all_from 14 s.args.frame.now) at c.why.ensures)
-    ∙ why_inside s.args.frame.now (rules_of s.args.limits) s.args.limits s.args.cell.now s.args.plant.now s.args.time
+    ∙ why_inside_lem s.args.frame.now (rules_of s.args.limits) s.args.limits s.args.cell.now s.args.plant.now s.args.time
     (state_of s.args.placing s.args.records.now s.args.tags.now s.args.counts.now s.args.clock.now)
     (sym t.enum-told2.given.1 ∙ w.what-is-in.ensures)
 
@@ -54,7 +54,7 @@ returns-3 : tie.Need-returns-3
 returns-3 c =
     let w = c.before.before in
     let s = w.before.before.before.before.before.before in
-    why_inside s.args.frame.now (rules_of s.args.limits) s.args.limits s.args.cell.now s.args.plant.now s.args.time
+    why_inside_lem s.args.frame.now (rules_of s.args.limits) s.args.limits s.args.cell.now s.args.plant.now s.args.time
     (state_of s.args.placing s.args.records.now s.args.tags.now s.args.counts.now s.args.clock.now)
     (sym c.enum-told3.given.1 ∙ w.what-is-in.ensures)
 
