@@ -1,5 +1,5 @@
-/* The gateway for programs in C and C++: link target/staticlib/libembed.a, which `rt staticlib embed` proves and writes. Who asks why a
- * packet is dropped (`spritgrommet_why` and what is made of it) also links libembed_why.a beside it, by `rt staticlib embed_why`.
+/* The gateway for programs in C and C++: link target/staticlib/libembed.a, which `tools/archives` proves and writes. Who asks why a packet is
+ * dropped (`spritgrommet_why` and what is made of it) also links libembed_why.a beside it.
  *
  * A gateway stands between a cell, which may be infected, and the plant. It judges each packet, and stops a machine of the cell that
  * keeps trying strangers. The caller owns all memory: settings, two side lists, the tables, the clock, and what a start answers for the
