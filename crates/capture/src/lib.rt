@@ -20,14 +20,14 @@ const SNAP_LENGTH: u32 = 2048;
 
 // Where the next record starts among the bytes at hand, and the capture's byte order.
 #[repr(C)]
-#[derive(Drop)]
+#[derive(Clone, Copy)]
 pub struct Cursor {
     pub at: usize,
     pub big_endian: bool,
 }
 
 // What opening answers: the number of a refusal, or where the first record starts.
-#[derive(Drop)]
+#[derive(Clone, Copy)]
 pub enum Opened {
     Refused(u8),
     Open(Cursor),
@@ -36,7 +36,7 @@ pub enum Opened {
 // A record: its second and microsecond, how many bytes were captured of how many, and where these stand: from a place up to another,
 // where the next record starts.
 #[repr(C)]
-#[derive(Drop)]
+#[derive(Clone, Copy)]
 pub struct Record {
     pub seconds: u32,
     pub microseconds: u32,
@@ -48,7 +48,7 @@ pub struct Record {
 
 // What reading a record answers: that no byte is left, that the record is cut off by the end of the bytes, that it has too many captured
 // bytes, or the record.
-#[derive(Drop)]
+#[derive(Clone, Copy)]
 pub enum Reading {
     End,
     Cut,
@@ -57,7 +57,7 @@ pub enum Reading {
 }
 
 // What writing answers: the number of a refusal, or the place after what was written.
-#[derive(Drop)]
+#[derive(Clone, Copy)]
 pub enum Written {
     Refused(u8),
     Next(usize),

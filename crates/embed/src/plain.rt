@@ -13,7 +13,7 @@ use tally::Tally;
 
 // The answer to a start: the number of its refusal, or 0 and what places packets in the tables, for the calls that follow.
 #[repr(C)]
-#[derive(Drop)]
+#[derive(Clone, Copy)]
 pub struct PlainStarted {
     pub refusal: u8,
     pub placing: Placing,
@@ -22,7 +22,7 @@ pub struct PlainStarted {
 // The answer to a packet: the number of its refusal, or 0; the verdict, 0 to 6; the cell address's count after it; 1 where an address lost
 // its entry, and that address.
 #[repr(C)]
-#[derive(Drop)]
+#[derive(Clone, Copy)]
 pub struct PlainAnswer {
     pub refusal: u8,
     pub verdict: u8,
@@ -34,7 +34,7 @@ pub struct PlainAnswer {
 // The winning entry of an address: 1 where it stands in the cell list, 2 in the plant list, 0 where neither holds the address; and its
 // number there, from 1.
 #[repr(C)]
-#[derive(Drop)]
+#[derive(Clone, Copy)]
 pub struct PlainWinner {
     pub side: u8,
     pub number: usize,
@@ -42,7 +42,7 @@ pub struct PlainWinner {
 
 // A part of a capture written: the number of its refusal, or 0 and the place after it in the room.
 #[repr(C)]
-#[derive(Drop)]
+#[derive(Clone, Copy)]
 pub struct PlainWritten {
     pub refusal: u8,
     pub next: usize,
@@ -50,7 +50,7 @@ pub struct PlainWritten {
 
 // A capture opened: the number of its refusal, or 0 and where the first record starts.
 #[repr(C)]
-#[derive(Drop)]
+#[derive(Clone, Copy)]
 pub struct PlainOpening {
     pub refusal: u8,
     pub cursor: Cursor,
@@ -58,7 +58,7 @@ pub struct PlainOpening {
 
 // A record read: the number of its refusal, or 0; 1 where there is a record, and 0 where no byte is left; and the record.
 #[repr(C)]
-#[derive(Drop)]
+#[derive(Clone, Copy)]
 pub struct PlainNext {
     pub refusal: u8,
     pub whole: u8,

@@ -11,7 +11,7 @@ use sides::Entry;
 // opening, 2 SYN+ACK, 3 closing, 4 plain; the marks and the count that it met, and T; which of the four facts are reported; and the entries
 // that decided on its source, in the cell list, and on its destination, in the plant list.
 #[repr(C)]
-#[derive(Drop)]
+#[derive(Clone, Copy)]
 pub struct PlainReason {
     pub refusal: u8,
     pub verdict: u8,

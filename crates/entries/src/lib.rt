@@ -5,14 +5,14 @@ ghost use Rattle.std.specs.Prelude.{◌≡◌, length, set};
 ghost use Rattle.entries.specs.Entries.{lacks_line, own_way, empty_way, smallest_way, room_for, count_in, count_of, written_of, written};
 
 // What a write pushed out of its line.
-#[derive(Drop)]
+#[derive(Clone, Copy)]
 pub enum Replaced {
     Nothing,
     Tag(u32),
 }
 
 // The way that a write takes, and what it replaces there.
-#[derive(Drop)]
+#[derive(Clone, Copy)]
 struct Room {
     way: usize,
     replaced: Replaced,

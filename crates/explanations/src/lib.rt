@@ -14,7 +14,7 @@ use sides::Entry;
 use verdicts::Verdict;
 
 // What is told of a packet that was dropped: its record's number and second, and why.
-#[derive(Drop)]
+#[derive(Clone, Copy)]
 struct Report {
     number: u64,
     seconds: u32,

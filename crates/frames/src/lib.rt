@@ -13,7 +13,7 @@ use rulings::answers::Answer;
 use settings::Limits;
 
 // What a frame holds: too few bytes for its own header, an IPv4 packet behind it, or something else.
-#[derive(Drop)]
+#[derive(Clone, Copy)]
 pub enum Inside {
     Short,
     Packet,

@@ -24,14 +24,14 @@ use sides::{Direction, Entry};
 use verdicts::Verdict;
 
 // What a call without a packet answers: the number of its refusal, or that it is done.
-#[derive(Drop)]
+#[derive(Clone, Copy)]
 pub enum Reply {
     Refused(u8),
     Done,
 }
 
 // What a start answers: its refusal alone, or that it is done and what places packets in the tables, which every later call takes.
-#[derive(Drop)]
+#[derive(Clone, Copy)]
 pub struct Started {
     pub reply: Reply,
     pub placing: Placing,
@@ -106,7 +106,7 @@ pub fn pass(
 }
 
 // Where a packet of ours is looked up: its slot, the number of lines, and its cell address's place in them.
-#[derive(Drop)]
+#[derive(Clone, Copy)]
 struct Spot {
     slot: usize,
     lines: u32,
@@ -365,7 +365,7 @@ pub fn judge(
 }
 
 // What a packet of ours meets where it is looked up: its record, and its cell address's count.
-#[derive(Drop)]
+#[derive(Clone, Copy)]
 struct Met {
     byte: u8,
     count: i16,

@@ -14,7 +14,7 @@ use rulings::answers::Answer;
 
 // Which program it is: the printing one, the one that writes what was forwarded, or the one that says why, of every record that was dropped
 // where its number is 0, and else of the one record with that number.
-#[derive(Drop)]
+#[derive(Clone, Copy)]
 pub enum Output {
     Lines,
     Forwarded,

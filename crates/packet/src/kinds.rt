@@ -3,7 +3,7 @@ ghost use Rattle.std.specs.Prelude.{◌≡◌};
 ghost use Rattle.packet.specs.Kinds.{flag_number, tcp_kind};
 
 // What a packet is, as far as verdicts look: UDP, a TCP packet that opens, answers or closes a connection, or any other.
-#[derive(Drop)]
+#[derive(Clone, Copy)]
 pub enum Kind {
     Udp,
     Opening,

@@ -10,7 +10,7 @@ pub mod kinds;
 use kinds::Kind;
 
 // What follows the IP header: the ports of TCP and UDP, and the kind. A later fragment and any other protocol have ports 0.
-#[derive(Drop)]
+#[derive(Clone, Copy)]
 pub struct Transport {
     pub source_port: u16,
     pub destination_port: u16,
@@ -18,7 +18,7 @@ pub struct Transport {
 }
 
 // What reading finds. `later` says that the packet is a later fragment, one with offset above 0.
-#[derive(Drop)]
+#[derive(Clone, Copy)]
 pub struct Header {
     pub source: u32,
     pub destination: u32,
@@ -28,7 +28,7 @@ pub struct Header {
 }
 
 // What reading answers: the headers, or the number of a refusal, 5 or 6.
-#[derive(Drop)]
+#[derive(Clone, Copy)]
 pub enum Reading {
     Refused(u8),
     Packet(Header),

@@ -6,7 +6,7 @@ ghost use Rattle.places.specs.Places.{slot_of, place_of, address_of};
 
 // What places packets in a gateway's tables: it is part of the gateway's state, a start sets it, and no other call changes it.
 #[repr(C)]
-#[derive(Drop)]
+#[derive(Clone, Copy)]
 pub struct Placing {
     // The eight round keys of the address permutation.
     pub keys: [u32; 8],
@@ -25,7 +25,7 @@ pub fn slot(keys: &[u32; 8], plant: u32, cell: u32, port: u32, records: u32) -> 
 }
 
 // Where the address table keeps an address: in which line, and under which tag.
-#[derive(Drop)]
+#[derive(Clone, Copy)]
 pub struct Place {
     pub line: u32,
     pub tag: u32,

@@ -13,7 +13,7 @@ use sides::Entry;
 use verdicts::Verdict;
 
 // Four facts, and whether each is reported: the address's count, the plant-to-cell mark, the cell-to-plant mark, the kind of packet.
-#[derive(Drop)]
+#[derive(Clone, Copy)]
 pub struct Reported {
     pub count: bool,
     pub plant_mark: bool,
@@ -23,7 +23,7 @@ pub struct Reported {
 
 // A packet that was dropped: its verdict, its headers, the count and the marks that it met, T, the facts that are reported, and the entries
 // that decided: of the cell list on its source, of the plant list on its destination.
-#[derive(Drop)]
+#[derive(Clone, Copy)]
 pub struct Drop {
     pub verdict: Verdict,
     pub header: Header,
@@ -37,7 +37,7 @@ pub struct Drop {
 
 // What the gateway answers to the question why: a refusal's number alone; that the packet is not ours; the verdict alone of one that is
 // forwarded; or why it was dropped.
-#[derive(Drop)]
+#[derive(Clone, Copy)]
 pub enum Explanation {
     Refused(u8),
     NotOurs,
@@ -46,7 +46,7 @@ pub enum Explanation {
 }
 
 // Whether it was asked why a packet is dropped, and what was answered.
-#[derive(Drop)]
+#[derive(Clone, Copy)]
 pub enum Asked {
     Nothing,
     Why(Explanation),

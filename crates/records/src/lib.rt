@@ -6,7 +6,7 @@ ghost use Rattle.laws.specs.Search.{every, those_below};
 ghost use Rattle.records.specs.Records.{marks_of, record_of, aged_by};
 
 // The marks of a record: whether plant to cell was seen, and cell to plant.
-#[derive(Drop)]
+#[derive(Clone, Copy)]
 pub struct Marks {
     pub plant: bool,
     pub cell: bool,

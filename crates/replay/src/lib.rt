@@ -20,7 +20,7 @@ const T: u16 = 10;
 
 // What one step answers: that no byte is left, that a record is cut off or too long, or a whole record, what the gateway answered, and what it
 // answered to the question why where that was asked.
-#[derive(Drop)]
+#[derive(Clone, Copy)]
 pub enum Step {
     End,
     Cut,
@@ -33,7 +33,7 @@ pub enum Step {
 }
 
 // What a whole record gets: the gateway's answer, and its answer to the question why where that was asked.
-#[derive(Drop)]
+#[derive(Clone, Copy)]
 struct Judgement {
     answer: Answer,
     asked: Asked,

@@ -13,7 +13,7 @@ use settings::Limits;
 use verdicts::Verdict;
 
 // A verdict, and what follows from it: the packet's record, whether the cell address's entry is written, and its count.
-#[derive(Drop)]
+#[derive(Clone, Copy)]
 pub struct Ruling {
     pub verdict: Verdict,
     pub byte: u8,
@@ -22,7 +22,7 @@ pub struct Ruling {
 }
 
 // The count after a verdict, and whether it is written.
-#[derive(Drop)]
+#[derive(Clone, Copy)]
 struct Counted {
     writes: bool,
     count: i16,

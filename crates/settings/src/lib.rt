@@ -7,7 +7,7 @@ ghost use Rattle.settings.specs.Settings.{factory_settings, with_threshold, bad_
 // The settings that have a range, which every call of a gateway takes. The type of each number is wider than its range, so that a value
 // outside it can be given, and is refused.
 #[repr(C)]
-#[derive(Drop)]
+#[derive(Clone, Copy)]
 pub struct Limits {
     // T, 1 to 255: a cell address is blocked when its count is at least this.
     pub threshold: u16,
@@ -21,7 +21,7 @@ pub struct Limits {
 
 // All settings of a gateway. The keys are free, and a cold start alone takes them: from then on the gateway runs on those of its state.
 #[repr(C)]
-#[derive(Drop)]
+#[derive(Clone, Copy)]
 pub struct Settings {
     // The eight round keys of the address permutation.
     pub keys: [u32; 8],

@@ -39,7 +39,7 @@ module _ (cell plant : List ℕ) (address : ℕ) where
 -- and where they lie: so whoever knows side and number, and where the lists lie, has the part
 pub place_at : Bor (List ℕ) → Bor (List ℕ) → Winning → ℕ × ℕ
 place_at cell plant winning =
-    picked (past cell.ptr (5 * winning.number - 5)) (past plant.ptr (5 * winning.number - 5)) (past cell.ptr 0) winning.side
+    picked (past cell.ref_ptr (5 * winning.number - 5)) (past plant.ref_ptr (5 * winning.number - 5)) (past cell.ref_ptr 0) winning.side
 
 pub same_place : (cell plant : Bor (List ℕ)) (address : ℕ) → winner_at cell plant address ≡ place_at cell plant (winning_of cell.now plant.now address)
 unfolding place_at

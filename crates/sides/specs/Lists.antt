@@ -84,7 +84,7 @@ winner_at cell plant address =
     decided (best_in cell.now address) (best_in plant.now address)
     (past cell.ref_ptr (5 * (best_in cell.now address).number - 5))
     (past plant.ref_ptr (5 * (best_in plant.now address).number - 5))
-    (past cell.ptr 0)
+    (past cell.ref_ptr 0)
 
 -- whose list the winning entry stands in, and its number there, from 1, with 0 where neither list holds the address
 abbrev pub winning_of : List ℕ → List ℕ → ℕ → Winning

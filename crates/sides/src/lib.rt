@@ -6,7 +6,7 @@ ghost use Rattle.std.specs.Prelude.{◌≡◌, ◌+◌, ◌*◌, ◌-◌, ◌<�
 ghost use Rattle.sides.specs.Lists.{bad_list, rank_at, best_in, best_of_two, entry_of, past, winner_of, winner_at, winning_of, entry_in, side_by, direction_of, direction_between};
 
 // The side that an address belongs to: outside, inside, or neither list holds it.
-#[derive(Drop)]
+#[derive(Clone, Copy)]
 pub enum Side {
     Cell,
     Plant,
@@ -14,7 +14,7 @@ pub enum Side {
 }
 
 // Whose packet it is: ours when one end is cell and the other plant, and then from which of them.
-#[derive(Drop)]
+#[derive(Clone, Copy)]
 pub enum Direction {
     FromCell,
     FromPlant,
@@ -23,21 +23,21 @@ pub enum Direction {
 
 // What a list has for an address: the number, from 1, of the entry that holds it best, and that entry's prefix length plus one. Both
 // are 0 where no entry holds the address.
-#[derive(Drop)]
+#[derive(Clone, Copy)]
 struct Best {
     number: usize,
     rank: u8,
 }
 
 // What a list has for two addresses.
-#[derive(Drop)]
+#[derive(Clone, Copy)]
 struct BestOfTwo {
     first: Best,
     second: Best,
 }
 
 // Where the winning entry of an address stands: the side whose list has it, and its number there, from 1.
-#[derive(Drop)]
+#[derive(Clone, Copy)]
 pub struct Winning {
     pub side: Side,
     pub number: usize,
@@ -45,7 +45,7 @@ pub struct Winning {
 
 // An entry of a side list by value: its number there, from 1, its address and its prefix length; each 0 where there is none.
 #[repr(C)]
-#[derive(Drop)]
+#[derive(Clone, Copy)]
 pub struct Entry {
     pub number: usize,
     pub address: u32,

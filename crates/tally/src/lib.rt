@@ -9,7 +9,7 @@ use rulings::answers::Answer;
 
 // A total for each verdict, 0 to 6, by its number.
 #[repr(C)]
-#[derive(Drop)]
+#[derive(Clone, Copy)]
 pub struct Tally {
     pub totals: [u32; 7],
 }

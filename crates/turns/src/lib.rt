@@ -17,7 +17,7 @@ use outputs::Output;
 
 // How many bytes of input are held, how far the program has come, whether more bytes are wanted before it comes further, whether input has
 // ended, whether a read failed, and whether all that was put out so far was written.
-#[derive(Drop)]
+#[derive(Clone, Copy)]
 pub struct Stage {
     pub held: usize,
     pub progress: Progress,
@@ -28,7 +28,7 @@ pub struct Stage {
 }
 
 // How many bytes were put before the first record, whether there are records to come, and their byte order.
-#[derive(Drop)]
+#[derive(Clone, Copy)]
 pub struct Begun {
     pub put: usize,
     pub is_open: bool,

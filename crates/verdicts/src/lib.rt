@@ -8,7 +8,7 @@ use packet::kinds::Kind;
 use records::Marks;
 
 // The verdicts on a packet of ours, 1 to 6, by their words in document 01.
-#[derive(Drop)]
+#[derive(Clone, Copy)]
 pub enum Verdict {
     // Forwarded, nothing counted.
     Uncounted,
