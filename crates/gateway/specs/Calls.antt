@@ -1,7 +1,7 @@
 -- Document 01, "Refusal numbers" as the calls give them, and the three calls that change anything: a cold start, a time alone, a packet.
 -- Assumes nothing.
 use Rattle.std.specs.Prelude.{List, ℕ, zero, suc, ℤ, length, replicate}
-use Rattle.std.specs.Borrow.{Bor}
+use Rattle.std.specs.Borrow.{MutBor}
 use denote.Triple.Both.{Both}
 use Rattle.settings.specs.declared.Limits.{Limits}
 use Rattle.settings.specs.declared.Settings.{Settings}
@@ -37,8 +37,8 @@ pub record After (A : Type 0) : Type 0 where
 
 -- what a call is lent, at its entry and at its exit, beside what places packets: the state before it, the state after it, and
 -- with the answer what it leaves
-module _ (placing : Placing) (records tags : Both (Bor (List ℕ)) (Bor (List ℕ))) (counts : Both (Bor (List ℤ)) (Bor (List ℤ)))
-    (clock : Both (Bor ℕ) (Bor ℕ)) where
+module _ (placing : Placing) (records tags : Both (MutBor (List ℕ)) (MutBor (List ℕ))) (counts : Both (MutBor (List ℤ)) (MutBor (List ℤ)))
+    (clock : Both (MutBor ℕ) (MutBor ℕ)) where
   abbrev pub lent : State
   lent = state_of placing records.entry.now tags.entry.now counts.entry.now clock.entry.now
 

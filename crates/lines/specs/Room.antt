@@ -1,7 +1,7 @@
 -- Bytes put into lent room from a place on, while there is room.
 -- Assumes nothing.
 use Rattle.std.specs.Prelude.{cond, List, [], ◌∷◌, ℕ, ◌+◌, ltb, length, set}
-use Rattle.std.specs.Borrow.{Bor}
+use Rattle.std.specs.Borrow.{MutBor}
 use denote.Triple.Both.{Both}
 
 -- the room, and the place after the last byte that was put
@@ -13,7 +13,7 @@ abbrev pub room_of : ℕ → List ℕ → Room
 room_of end bytes = record { end = end; bytes = bytes }
 
 -- a room that is lent, at its entry and at its exit: to be written from a place on, and as it is left, with the place after what was put
-module _ (room : Both (Bor (List ℕ)) (Bor (List ℕ))) where
+module _ (room : Both (MutBor (List ℕ)) (MutBor (List ℕ))) where
   abbrev pub lent_room : ℕ → Room
   lent_room at = room_of at room.entry.now
 

@@ -7,7 +7,7 @@ use Prim.Native.Nat.{ℕ, ◌+◌, ◌-◌, ◌<◌, ◌≤◌}
 use native.Mathlib.Omega.{arith}
 use lib.IntN.{ℤ, pos, negsuc, nat_abs}
 use Rattle.laws.specs.Search.{some_below}
-use Rattle.laws.specs.Choice.{at_some_lem}
+use Rattle.laws.specs.Choice.{at_some}
 use Rattle.laws.proofs.Search.{some_is, some_at, some_none}
 use Rattle.laws.proofs.Signed.{signed, difference_is, size, one_part}
 use Rattle.laws.proofs.Tests.{true_is_not_false, or_yes, or_left}
@@ -75,7 +75,7 @@ module _ (threshold : ℕ) (facts : Facts) where
       go false e = sym (some_none held_counts _ (λ number h. by (is_blocked threshold (held_count number)) e))
 
 -- ---- each value tried, as the code does it
-marks_tried : (test : Bool → Bool) {a b : Bool} → a ≡ test true → b ≡ test false → (a || b) ≡ at_some_lem test mark_values
+marks_tried : (test : Bool → Bool) {a b : Bool} → a ≡ test true → b ≡ test false → (a || b) ≡ at_some test mark_values
 marks_tried test p q = (λ i. p i || q i) ∙ ap (λ (t : Bool). test true || t) (sym (or-false (test false)))
 
 of_five : (a b c d e : Bool) → ((((a || b) || c) || d) || e) ≡ (a || (b || (c || (d || (e || false)))))
@@ -86,26 +86,26 @@ of_five false false false true e = refl
 of_five false false false false e = sym (or-false e)
 
 pub kinds_tried : (test : Kind → Bool) {a b c d e : Bool} → a ≡ test Udp → b ≡ test Opening → c ≡ test SynAck → d ≡ test Closing → e ≡ test Plain
-    → ((((a || b) || c) || d) || e) ≡ at_some_lem test kind_values
+    → ((((a || b) || c) || d) || e) ≡ at_some test kind_values
 kinds_tried test p q r s t =
     (λ i. (((p i || q i) || r i) || s i) || t i) ∙ of_five (test Udp) (test Opening) (test SynAck) (test Closing) (test Plain)
 
 -- ---- what a report says: each fact is reported exactly if some value of it lets the packet through
 -- a value of a list at which a test passes
-at_some_lem : {A : Type 0} (test : A → Bool) (values : List A) → at_some_lem test values ≡ true → (value : A) × (test value ≡ true)
+at_some_lem : {A : Type 0} (test : A → Bool) (values : List A) → at_some test values ≡ true → (value : A) × (test value ≡ true)
 at_some_lem test [] e = true_is_not_false e refl
 at_some_lem test (value ∷ values) e = go (test value) refl (at_some_lem test values)
   where
-    go : (t : Bool) → test value ≡ t → (at_some_lem test values ≡ true → (other : _) × (test other ≡ true)) → (other : _) × (test other ≡ true)
+    go : (t : Bool) → test value ≡ t → (at_some test values ≡ true → (other : _) × (test other ≡ true)) → (other : _) × (test other ≡ true)
     go true h others = (value, h)
-    go false h others = others (sym (ap (λ (b : Bool). b || at_some_lem test values) h) ∙ e)
+    go false h others = others (sym (ap (λ (b : Bool). b || at_some test values) h) ∙ e)
 
 -- every value of a mark and of a kind is listed
-of_marks : (test : Bool → Bool) (mark : Bool) → test mark ≡ true → at_some_lem test mark_values ≡ true
+of_marks : (test : Bool → Bool) (mark : Bool) → test mark ≡ true → at_some test mark_values ≡ true
 of_marks test true e = ap (λ (b : Bool). b || (test false || false)) e
 of_marks test false e = or_yes (test true) (ap (λ (b : Bool). b || false) e)
 
-of_kinds : (test : Kind → Bool) (kind : Kind) → test kind ≡ true → at_some_lem test kind_values ≡ true
+of_kinds : (test : Kind → Bool) (kind : Kind) → test kind ≡ true → at_some test kind_values ≡ true
 of_kinds test Udp e = ap (λ (b : Bool). b || (test Opening || (test SynAck || (test Closing || (test Plain || false))))) e
 of_kinds test Opening e = or_yes (test Udp) (ap (λ (b : Bool). b || (test SynAck || (test Closing || (test Plain || false)))) e)
 of_kinds test SynAck e = or_yes (test Udp) (or_yes (test Opening) (ap (λ (b : Bool). b || (test Closing || (test Plain || false))) e))
@@ -177,9 +177,9 @@ abbrev by_blocked : Bool → Facts → Reported
 by_blocked blocked facts =
     record {
       count = through false facts.plant facts.cell facts.kind;
-      plant_mark = at_some_lem (λ mark. through blocked mark facts.cell facts.kind) mark_values;
-      cell_mark = at_some_lem (λ mark. through blocked facts.plant mark facts.kind) mark_values;
-      kind = at_some_lem (λ kind. through blocked facts.plant facts.cell kind) kind_values;
+      plant_mark = at_some (λ mark. through blocked mark facts.cell facts.kind) mark_values;
+      cell_mark = at_some (λ mark. through blocked facts.plant mark facts.kind) mark_values;
+      kind = at_some (λ kind. through blocked facts.plant facts.cell kind) kind_values;
     }
 
 by_blocked_lem : (threshold : ℕ) (facts : Facts) → reported_on threshold facts ≡ by_blocked (is_blocked threshold facts.count) facts
@@ -198,7 +198,7 @@ pub reported_as : (threshold : ℕ) (facts : Facts) {blocked count plant plant' 
     → count ≡ through false facts.plant facts.cell facts.kind
     → plant ≡ through blocked true facts.cell facts.kind → plant' ≡ through blocked false facts.cell facts.kind
     → cell ≡ through blocked facts.plant true facts.kind → cell' ≡ through blocked facts.plant false facts.kind
-    → kind ≡ at_some_lem (λ value. through blocked facts.plant facts.cell value) kind_values
+    → kind ≡ at_some (λ value. through blocked facts.plant facts.cell value) kind_values
     → record { count = count; plant_mark = plant || plant'; cell_mark = cell || cell'; kind = kind } ≡ reported_on threshold facts
 reported_as threshold facts {blocked} b e p q r s k =
     (λ i. record {

@@ -2,7 +2,7 @@
 -- Assumes nothing.
 use Rattle.std.specs.Prelude.{Bool, true, false, List, [], ◌∷◌, ℕ, ℤ, pos, ◌-ℤ◌}
 use Rattle.laws.specs.Search.{some_below}
-use Rattle.laws.specs.Choice.{at_some_lem}
+use Rattle.laws.specs.Choice.{at_some}
 use Rattle.packet.specs.declared.kinds.Kind.{Kind}
 use Rattle.packet.specs.declared.kinds.Kind.TheVariants.{Udp, Opening, SynAck, Closing, Plain}
 use Rattle.counts.specs.Counts.{is_blocked}
@@ -64,7 +64,7 @@ unfoldable pub reported_on : ℕ → Facts → Reported
 reported_on threshold facts =
     record {
       count = some_below held_counts (λ number. passes threshold (with_count facts (held_count number)));
-      plant_mark = at_some_lem (λ mark. passes threshold (with_plant facts mark)) mark_values;
-      cell_mark = at_some_lem (λ mark. passes threshold (with_cell facts mark)) mark_values;
-      kind = at_some_lem (λ kind. passes threshold (with_kind facts kind)) kind_values;
+      plant_mark = at_some (λ mark. passes threshold (with_plant facts mark)) mark_values;
+      cell_mark = at_some (λ mark. passes threshold (with_cell facts mark)) mark_values;
+      kind = at_some (λ kind. passes threshold (with_kind facts kind)) kind_values;
     }

@@ -1,7 +1,7 @@
 -- Document 01, "Settings and sizes": the gateway's two tables, as three lists.
 -- Assumes nothing.
 use Rattle.std.specs.Prelude.{List, ℕ, ℤ}
-use Rattle.std.specs.Borrow.{Bor}
+use Rattle.std.specs.Borrow.{MutBor}
 use denote.Triple.Both.{Both}
 
 -- the connection table, and the address table "as a list of 32-bit tags and a list of signed 16-bit counts"
@@ -14,7 +14,7 @@ abbrev pub tables_of : List ℕ → List ℕ → List ℤ → Tables
 tables_of records tags counts = record { records = records; tags = tags; counts = counts }
 
 -- what a call is lent, at its entry and at its exit: the tables before it and after it
-module _ (records tags : Both (Bor (List ℕ)) (Bor (List ℕ))) (counts : Both (Bor (List ℤ)) (Bor (List ℤ))) where
+module _ (records tags : Both (MutBor (List ℕ)) (MutBor (List ℕ))) (counts : Both (MutBor (List ℤ)) (MutBor (List ℤ))) where
   abbrev pub lent_tables : Tables
   lent_tables = tables_of records.entry.now tags.entry.now counts.entry.now
 
