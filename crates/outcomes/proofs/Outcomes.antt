@@ -209,7 +209,7 @@ sides_bad_list_one κs a x y s t p q = same p q
 pub sides_winner_one_part : (κs : _) (a : _) → One (sides_winner.Learnt κs a) (λ x s. x.now)
 sides_winner_one_part κs a x y s t p q = same p.0 q.0
 
-pub sides_winner_one_place : (κs : _) (a : _) → One (sides_winner.Learnt κs a) (λ x s. x.ptr)
+pub sides_winner_one_place : (κs : _) (a : _) → One (sides_winner.Learnt κs a) (λ x s. x.ref_ptr)
 sides_winner_one_place κs a x y s t p q = same p.1 q.1
 
 pub sides_winning_entry_one : (κs : _) (a : _) → One (sides_winning_entry.Learnt κs a) (λ x s. x)
