@@ -8,8 +8,8 @@
  *
  * What each call answers is proved for every input of the types below. What the prover cannot see is the caller's side of the boundary:
  * each pointer is aligned for its elements and leads to as many as the length beside it says, what is written overlaps nothing else that
- * the call is lent, and none is null (a length of 0 needs a pointer too, to anything). The archives are for x86-64 Linux; use the header
- * that stands beside it.
+ * the call is lent, and none is null (a length of 0 needs a pointer too, to anything). The archives are for Linux on x86-64, level v2
+ * (which has SSE4.2); use the header that stands beside it.
  *
  * Refusals: 0 where the call is not refused, and else
  *   1  a setting is outside its range
