@@ -335,16 +335,16 @@ module _ (x : Setup) (start : Start) where
     abbrev by : Direction → After Answer
     by direction = accepted site.rules site.limits (header_of bytes) direction time s
 
-    by_direction : s.clock ≤ time → (direction : Direction) → direction_in site.cell site.plant (header_of bytes) ≡ direction
+    by_direction_lem : s.clock ≤ time → (direction : Direction) → direction_in site.cell site.plant (header_of bytes) ≡ direction
         → Stepped x start s.clock h (by direction).state (judged_at time bytes (by direction).answer)
     unfolding by_direction
-    by_direction l FromCell e =
+    by_direction_lem l FromCell e =
         subst (λ (t : ℕ). Stepped x start s.clock h (by FromCell).state (judged_at t bytes (by FromCell).answer))
         (clock_at x s time l) (stepped_ours (timed x time s) h (run_onward x start time l i) bytes small s.clock false (ap is_from_plant e))
-    by_direction l FromPlant e =
+    by_direction_lem l FromPlant e =
         subst (λ (t : ℕ). Stepped x start s.clock h (by FromPlant).state (judged_at t bytes (by FromPlant).answer))
         (clock_at x s time l) (stepped_ours (timed x time s) h (run_onward x start time l i) bytes small s.clock true (ap is_from_plant e))
-    by_direction l NotOurs e = stepped_quiet x start (run_onward x start time l i) (judged_at time bytes answer.NotOurs) refl (clock_at x s time l)
+    by_direction_lem l NotOurs e = stepped_quiet x start (run_onward x start time l i) (judged_at time bytes answer.NotOurs) refl (clock_at x s time l)
 
     early : packet_refusal site.limits site.cell site.plant time bytes s ≡ 0 → s.clock ≤ time
     early e =
@@ -361,5 +361,5 @@ module _ (x : Setup) (start : Start) where
 
         go : (n : ℕ) → packet_refusal site.limits site.cell site.plant time bytes s ≡ n
             → Stepped x start s.clock h (unless_refused answer.Refused n s after).state (judged_at time bytes (unless_refused answer.Refused n s after).answer)
-        go zero e = by_direction (early e) (direction_in site.cell site.plant (header_of bytes)) refl
+        go zero e = by_direction_lem (early e) (direction_in site.cell site.plant (header_of bytes)) refl
         go (suc n) e = stepped_quiet x start i (judged_at time bytes (answer.Refused (suc n))) refl refl

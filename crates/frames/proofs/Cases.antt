@@ -49,13 +49,13 @@ module _ (frame : List ℕ) where
       go false q e = ltb-false _ _ q
 
   module _ (rules : Rules) (limits : Limits) (cell plant : List ℕ) (time : ℕ) (before : State) where
-    pub by_inside : {i : Inside} → i ≡ inside_of frame → by_inside i before (judged rules limits cell plant time (carried frame) before) ≡ frame_judged rules limits cell plant time frame before
+    pub by_inside_lem : {i : Inside} → i ≡ inside_of frame → by_inside i before (judged rules limits cell plant time (carried frame) before) ≡ frame_judged rules limits cell plant time frame before
     unfolding frame_judged
-    by_inside e = ap (λ (j : Inside). by_inside j before (judged rules limits cell plant time (carried frame) before)) e
+    by_inside_lem e = ap (λ (j : Inside). by_inside j before (judged rules limits cell plant time (carried frame) before)) e
 
-    pub why_inside : {i : Inside} → i ≡ inside_of frame → why_inside i (why_of rules limits cell plant time (carried frame) before) ≡ frame_explained rules limits cell plant time frame before
+    pub why_inside_lem : {i : Inside} → i ≡ inside_of frame → why_inside i (why_of rules limits cell plant time (carried frame) before) ≡ frame_explained rules limits cell plant time frame before
     unfolding frame_explained
-    why_inside e = ap (λ (j : Inside). why_inside j (why_of rules limits cell plant time (carried frame) before)) e
+    why_inside_lem e = ap (λ (j : Inside). why_inside j (why_of rules limits cell plant time (carried frame) before)) e
 
 -- all the bytes from a place on
 pub all_from : (at : ℕ) (l : List ℕ) → take (length l - at) (drop at l) ≡ drop at l

@@ -4,7 +4,7 @@
 
 ghost use Rattle.std.specs.Prelude.{◌≡◌};
 ghost use Rattle.rulings.specs.Rules.{rules_of};
-ghost use Rattle.gateway.specs.Calls.{lent, left};
+ghost use Rattle.gateway.specs.Calls.{state_of, lent, left};
 ghost use Rattle.frames.specs.Frames.{inside_of, frame_judged, frame_explained};
 
 use places::Placing;
@@ -78,7 +78,7 @@ pub fn why<'a>(
     frame: &[u8],
 ) -> Explanation
     ensures { result ≡ frame_explained (rules_of limits) limits cell.now plant.now time frame.now
-        (lent placing records tags counts clock) }
+        (state_of placing records.now tags.now counts.now clock.now) }
 {
     match what_is_in(frame) {
         Inside::Short => Explanation::Refused(5),

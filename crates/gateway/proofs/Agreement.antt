@@ -240,20 +240,20 @@ module _ (limits : Limits) (cell plant : List ℕ) where
   met_by placing h from_plant tables =
       met_in (spot_of slot_rule placing h from_plant (length tables.records) (length tables.tags)) tables
 
-  by_direction : (placing : Placing) (h : Header) (d : Direction) (tables : Tables) → direction_in cell plant h ≡ d
+  by_direction_lem : (placing : Placing) (h : Header) (d : Direction) (tables : Tables) → direction_in cell plant h ≡ d
       → AllTrue limits cell plant (why_by_direction (rules_of limits) placing cell plant h d tables)
   unfolding why_by_direction why_ours
-  by_direction placing h FromCell tables e = cell_true h (met_by placing h false tables) e _ refl
-  by_direction placing h FromPlant tables e = plant_true h (met_by placing h true tables) _ refl
-  by_direction placing h NotOurs tables e = record { alone = refl; holds = tt }
+  by_direction_lem placing h FromCell tables e = cell_true h (met_by placing h false tables) e _ refl
+  by_direction_lem placing h FromPlant tables e = plant_true h (met_by placing h true tables) _ refl
+  by_direction_lem placing h NotOurs tables e = record { alone = refl; holds = tt }
 
-  unless_refused : (number : ℕ) (told : Explanation) → AllTrue limits cell plant told → AllTrue limits cell plant (unless_refused_by number told)
-  unless_refused zero told true_of = true_of
-  unless_refused (suc n) told true_of = record { alone = refl; holds = tt }
+  unless_refused_lem : (number : ℕ) (told : Explanation) → AllTrue limits cell plant told → AllTrue limits cell plant (unless_refused_by number told)
+  unless_refused_lem zero told true_of = true_of
+  unless_refused_lem (suc n) told true_of = record { alone = refl; holds = tt }
 
   -- for every input: what is told of a packet that is dropped holds of it, and only a packet from the cell is
   pub all_true : (time : ℕ) (bytes : List ℕ) (before : State) → AllTrue limits cell plant (why_of (rules_of limits) limits cell plant time bytes before)
   unfolding why_of
   all_true time bytes before =
-      unless_refused (packet_refusal limits cell plant time bytes before) _
-      (by_direction before.placing (header_of bytes) (direction_in cell plant (header_of bytes)) (onward 1 limits time before).tables refl)
+      unless_refused_lem (packet_refusal limits cell plant time bytes before) _
+      (by_direction_lem before.placing (header_of bytes) (direction_in cell plant (header_of bytes)) (onward 1 limits time before).tables refl)

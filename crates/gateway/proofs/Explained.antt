@@ -70,12 +70,12 @@ module _ (limits : Limits) (time : ℕ) (records tags : List ℕ) (counts : List
   }
 
   -- it is looked up where it would be in the tables as they stand
-  pub why_ours : (placing : Placing) (cell plant : List ℕ) (h : Header) (from_plant : Bool) {spot : Spot} {met : Met} {left : Explanation}
+  pub why_ours_lem : (placing : Placing) (cell plant : List ℕ) (h : Header) (from_plant : Bool) {spot : Spot} {met : Met} {left : Explanation}
       → spot ≡ spot_of slot_rule placing h from_plant (length records) (length tags)
       → met ≡ met_in spot then → left ≡ why_met (rules_of limits) cell plant h from_plant met
       → left ≡ why_ours (rules_of limits) placing cell plant h from_plant then
   unfolding why_ours time_passed
-  why_ours placing cell plant h from_plant s m l =
+  why_ours_lem placing cell plant h from_plant s m l =
       l
       ∙ ap (why_met (rules_of limits) cell plant h from_plant) m
       ∙ ap (λ (x : Spot). why_met (rules_of limits) cell plant h from_plant (met_in x then))

@@ -48,12 +48,12 @@ module _ {A : Type 0} (refused : ℕ → A) (before : State) (after : After A) w
 
 -- ---- a packet
 module _ (rules : Rules) (placing : Placing) (h : Header) (before : Tables) where
-  pub by_direction : (d : Direction) {found from_plant : Bool} → found ≡ is_ours d → found ≡ true → from_plant ≡ is_from_plant d
+  pub by_direction_lem : (d : Direction) {found from_plant : Bool} → found ≡ is_ours d → found ≡ true → from_plant ≡ is_from_plant d
       → ours rules placing h from_plant before ≡ by_direction rules placing h d before
   unfolding by_direction
-  by_direction FromCell e t f = ap (λ (b : Bool). ours rules placing h b before) f
-  by_direction FromPlant e t f = ap (λ (b : Bool). ours rules placing h b before) f
-  by_direction NotOurs e t f = true_is_not_false t e
+  by_direction_lem FromCell e t f = ap (λ (b : Bool). ours rules placing h b before) f
+  by_direction_lem FromPlant e t f = ap (λ (b : Bool). ours rules placing h b before) f
+  by_direction_lem NotOurs e t f = true_is_not_false t e
 
   pub not_ours : (d : Direction) {found : Bool} → found ≡ is_ours d → found ≡ false
       → outcome_of NotOurs' before ≡ by_direction rules placing h d before

@@ -7,10 +7,10 @@ ghost use Rattle.sides.specs.Lists.{deciding_entry};
 ghost use Rattle.entries.specs.Entries.{written_of};
 ghost use Rattle.tables.specs.Sizes.{bad_sizes};
 ghost use Rattle.rulings.specs.Rules.{cell_of, plant_of, slot_rule, rules_of};
-ghost use Rattle.tables.specs.Tables.{lent_tables, left_tables};
+ghost use Rattle.tables.specs.Tables.{tables_of, lent_tables, left_tables};
 ghost use Rattle.gateway.specs.declared.Reply.TheVariants.{Refused};
 ghost use Rattle.gateway.specs.Packets.{outcome_of, replacement_of, entered, spot_of, ruling_at, settled, ours, is_ours, is_from_plant, by_direction};
-ghost use Rattle.gateway.specs.Calls.{lent, left, no_placing, tables_at, started, passed, accepted, judged};
+ghost use Rattle.gateway.specs.Calls.{state_of, lent, left, no_placing, tables_at, started, passed, accepted, judged};
 ghost use Rattle.gateway.specs.Why.{met_in, drop_of, why_met, why_ours, why_by_direction, why_of};
 
 use entries::Replaced;
@@ -174,7 +174,7 @@ fn ruling_at(
     counts: &[i16],
 ) -> Ruling
     requires { spot.slot < length records.now }
-    ensures { result ≡ ruling_at (rules_of limits) header from_plant spot (lent_tables records tags counts) }
+    ensures { result ≡ ruling_at (rules_of limits) header from_plant spot (tables_of records.now tags.now counts.now) }
 {
     let slot = spot.slot;
     let count = entries::count_of(tags, counts, spot.place.line, spot.place.tag);
@@ -383,7 +383,7 @@ fn met_at(
     time: u32,
 ) -> Met
     requires { spot.slot < length records.now }
-    ensures { result ≡ met_in spot (tables_at (rules_of limits).point limits clock time (lent_tables records tags counts)) }
+    ensures { result ≡ met_in spot (tables_at (rules_of limits).point limits clock time (tables_of records.now tags.now counts.now)) }
 {
     let slot = spot.slot;
     let minutes = tables::clock::multiples_passed(60, clock, time);
@@ -469,7 +469,7 @@ fn explain_ours<'a>(
 ) -> Explanation
     requires { bad_sizes (length records.now) (length tags.now) (length counts.now) ≡ false }
     ensures { result ≡ why_ours (rules_of limits) placing cell.now plant.now header from_plant
-        (tables_at (rules_of limits).point limits clock time (lent_tables records tags counts)) }
+        (tables_at (rules_of limits).point limits clock time (tables_of records.now tags.now counts.now)) }
 {
     let spot = spot_of(placing, header, from_plant, records.len(), tags.len());
     let met = met_at(limits, spot, records, tags, counts, clock, time);
@@ -492,7 +492,7 @@ fn explain_by_direction<'a>(
 ) -> Explanation
     requires { bad_sizes (length records.now) (length tags.now) (length counts.now) ≡ false }
     ensures { result ≡ why_by_direction (rules_of limits) placing cell.now plant.now header direction
-        (tables_at (rules_of limits).point limits clock time (lent_tables records tags counts)) }
+        (tables_at (rules_of limits).point limits clock time (tables_of records.now tags.now counts.now)) }
 {
     if is_ours(direction) {
         let of_plant = is_from_plant(direction);
@@ -519,7 +519,7 @@ pub fn why<'a>(
     packet: &[u8],
 ) -> Explanation
     ensures { result ≡ why_of (rules_of limits) limits cell.now plant.now time packet.now
-        (lent placing records tags counts clock) }
+        (state_of placing records.now tags.now counts.now clock.now) }
 {
     let at = *clock;
     let number = refusals::of_packet(

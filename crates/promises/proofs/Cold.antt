@@ -102,13 +102,13 @@ module _ (g : Gateway) (cold : StartsCold g) where
       }
 
   -- that starts in this state
-  abbrev cold_state : State
-  cold_state = cold_state g.settings g.began (unstarted g.tables g.clock)
+  abbrev cold_state_lem : State
+  cold_state_lem = cold_state g.settings g.began (unstarted g.tables g.clock)
 
-  first_is : first g ≡ started_cold cold_state
+  first_is : first g ≡ started_cold cold_state_lem
   unfolding started
   first_is =
-      ap (λ (number : ℕ). started_cold (unless_refused Refused number (unstarted g.tables g.clock) (record { answer = Done; state = cold_state })).state) cold.not_refused
+      ap (λ (number : ℕ). started_cold (unless_refused Refused number (unstarted g.tables g.clock) (record { answer = Done; state = cold_state_lem })).state) cold.not_refused
 
   -- every record is 0, and no address has an entry
   zero_record : (n slot : ℕ) → ◌≡◌ {A = ℕ} (get_or (replicate n 0) slot 0) 0
@@ -116,19 +116,19 @@ module _ (g : Gateway) (cold : StartsCold g) where
   zero_record (suc n) zero = refl
   zero_record (suc n) (suc slot) = zero_record n slot
 
-  cold_record : (slot : ℕ) → is_cold (get_or cold_state.tables.records slot 0) ≡ true
+  cold_record : (slot : ℕ) → is_cold (get_or cold_state_lem.tables.records slot 0) ≡ true
   unfolding cold_tables
   cold_record slot = ap is_cold (zero_record (length g.tables.records) slot) ∙ low_is_cold 0 (omega arith)
 
-  no_count : (address : ℕ) → count_in setup cold_state address ≡ pos 0
+  no_count : (address : ℕ) → count_in setup cold_state_lem address ≡ pos 0
   unfolding cold_tables is_empty
-  no_count address = count_cold cold_state.tables.tags (length g.tables.counts) (minus 32768) refl _ _
+  no_count address = count_cold cold_state_lem.tables.tags (length g.tables.counts) (minus 32768) refl _ _
 
-  placing_is : cold_state.placing ≡ setup.site.placing
+  placing_is : cold_state_lem.placing ≡ setup.site.placing
   unfolding setup
   placing_is = refl
 
-  sound : Sound setup cold_state
+  sound : Sound setup cold_state_lem
   unfolding setup cold_tables is_empty
   sound =
       let lines : 4 * sizes.lines ≡ 4 * 2 ^ sizes.line_count.exponent = ap (λ (n : ℕ). 4 * n) sizes.line_count.is in
@@ -138,7 +138,7 @@ module _ (g : Gateway) (cold : StartsCold g) where
         few = omega (arith, sizes.line_count.most);
         tags_long = length-replicate (length g.tables.tags) 0 ∙ sizes.four_each ∙ lines;
         counts_long = length-replicate (length g.tables.counts) (minus 32768) ∙ sizes.alike ∙ sizes.four_each ∙ lines;
-        once = once_cold cold_state.tables.tags (length g.tables.counts) (minus 32768) refl;
+        once = once_cold cold_state_lem.tables.tags (length g.tables.counts) (minus 32768) refl;
       }
 
   -- so nothing is live there and every count is 0
@@ -154,9 +154,9 @@ module _ (g : Gateway) (cold : StartsCold g) where
         full = λ address l. omega arith;
       })
     where
-      nothing_held : (slot now : ℕ) → false ≡ held_by setup.site.limits.dconn g.began (get_or cold_state.tables.records slot 0) now
+      nothing_held : (slot now : ℕ) → false ≡ held_by setup.site.limits.dconn g.began (get_or cold_state_lem.tables.records slot 0) now
       nothing_held slot now =
-          let young = leb (age_of (get_or cold_state.tables.records slot 0) + multiples_passed 60 g.began now) setup.site.limits.dconn in
+          let young = leb (age_of (get_or cold_state_lem.tables.records slot 0) + multiples_passed 60 g.began now) setup.site.limits.dconn in
           sym (ap (λ (t : Bool). young && not t) (cold_record slot) ∙ and-false young)
 
   pub all_fit : (calls : List Call) → OfBytes calls → AllFit setup calls

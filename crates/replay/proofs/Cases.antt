@@ -87,14 +87,14 @@ module _ (asks isFirst : Bool) (bytes : List ℕ) (cursor : Cursor) (before : St
   IsWhole step.Long = Unit {0}
   IsWhole (step.Judged r answer asked) = next_of bytes cursor ≡ reading.Whole r
 
-  by_reading : (x : Reading) → next_of bytes cursor ≡ x → IsWhole (by_reading asks isFirst bytes x before).answer
-  by_reading reading.End e = tt
-  by_reading reading.Cut e = tt
-  by_reading reading.Long e = tt
-  by_reading (reading.Whole r) e = e
+  by_reading_lem : (x : Reading) → next_of bytes cursor ≡ x → IsWhole (by_reading asks isFirst bytes x before).answer
+  by_reading_lem reading.End e = tt
+  by_reading_lem reading.Cut e = tt
+  by_reading_lem reading.Long e = tt
+  by_reading_lem (reading.Whole r) e = e
 
   pub judged_is_whole : (r : Record) (answer : Answer) (asked : Asked) (after : After Step) → after ≡ stepped asks isFirst bytes cursor before
       → after.answer ≡ step.Judged r answer asked
       → next_of bytes cursor ≡ reading.Whole r
   unfolding stepped
-  judged_is_whole r answer asked after e f = subst IsWhole (sym (ap (λ (a : After Step). a.answer) e) ∙ f) (by_reading (next_of bytes cursor) refl)
+  judged_is_whole r answer asked after e f = subst IsWhole (sym (ap (λ (a : After Step). a.answer) e) ∙ f) (by_reading_lem (next_of bytes cursor) refl)

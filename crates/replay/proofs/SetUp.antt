@@ -81,10 +81,10 @@ module _ (before : State) (records : length before.tables.records ≡ 4096) (tag
       go Other = refl
 
   -- every record after the first, by what is read: no other number is given
-  pub step_refusal : (asks : Bool) (bytes : List ℕ) (cursor : Cursor)
+  pub step_refusal_lem : (asks : Bool) (bytes : List ℕ) (cursor : Cursor)
       → step_refusal (stepped asks false bytes cursor before).answer ≡ step_number bytes (next_of bytes cursor)
   unfolding stepped record_judged started_first
-  step_refusal asks bytes cursor = go (next_of bytes cursor)
+  step_refusal_lem asks bytes cursor = go (next_of bytes cursor)
     where
       go : (x : Reading) → step_refusal (by_reading asks false bytes x before).answer ≡ step_number bytes x
       go End = refl

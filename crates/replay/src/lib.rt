@@ -2,7 +2,7 @@
 #![tactic(auto)]
 
 ghost use Rattle.std.specs.Prelude.{◌≡◌, ◌≤◌, length};
-ghost use Rattle.gateway.specs.Calls.{lent, left_state, left};
+ghost use Rattle.gateway.specs.Calls.{state_of, lent, left_state, left};
 ghost use Rattle.replay.specs.Replay.{program_settings, program_limits, program_placing, started_first, asked_of, judgement_of, stepped};
 
 use capture::{Cursor, Reading, Record};
@@ -90,7 +90,7 @@ fn ask(
     time: u32,
     frame: &[u8],
 ) -> Asked
-    ensures { result ≡ asked_of asks time frame.now (lent program_placing records tags counts clock) }
+    ensures { result ≡ asked_of asks time frame.now (state_of program_placing records.now tags.now counts.now clock.now) }
 {
     if asks {
         return Asked::Why(frames::why(

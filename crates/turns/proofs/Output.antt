@@ -556,9 +556,9 @@ module _ (takes : ℕ) (reason : List ℕ) (output : Output) (header : List ℕ)
     opened_out : fails ≡ false → (ended takes reason output last).out ≡ take takes (output_of output all cursor program_tables)
     opened_out e = ⊎_elim (λ f. done_out f (f.found (last_fails ∙ e))) (λ b. broken_out b ∙ first_part b) over
 
-    opened_beside : fails ≡ false → length (output_of output all cursor program_tables) ≤ takes
+    opened_beside_lem : fails ≡ false → length (output_of output all cursor program_tables) ≤ takes
         → (ended takes reason output last).beside ≡ beside_of output (ending_of output all cursor program_tables) target.records
-    opened_beside e h =
+    opened_beside_lem e h =
         ⊎_elim (λ f. done_beside f (f.found (last_fails ∙ e)) h) (λ b. absurd (omega (arith, h, too_long b))) over
 
     opened_broken : fails ≡ false → takes < length (output_of output all cursor program_tables) → (ended takes reason output last).beside ≡ []
@@ -741,7 +741,7 @@ module _ (takes : ℕ) (reason : List ℕ) (output : Output) (pieces : List (Lis
       open_beside : fails ≡ false → length (program_output output capture) ≤ takes → said.beside ≡ program_beside output capture
       open_beside f h =
           ap (λ (x : Said). x.beside) opened_said
-          ∙ opened_beside takes reason output window r.input.pieces fails_now buffer room cursor turns so (head.heading.fails_is ∙ f)
+          ∙ opened_beside_lem takes reason output window r.input.pieces fails_now buffer room cursor turns so (head.heading.fails_is ∙ f)
           (omega (arith, h, ap length output_is))
           ∙ (λ i. beside_of output (ending_of output (split i) cursor program_tables) (told_of_capture output (split i) cursor program_tables).records)
           ∙ sym (ap (opened_beside output capture) e)

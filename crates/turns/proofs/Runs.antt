@@ -374,17 +374,17 @@ module _ (takes : ℕ) (output : Output) (big : Bool) (target : Told) (ended : R
         by_no_record : x.page.progress.has_more ≡ false → x.page.progress.is_over ≡ false → Waits (drop at d.window)
         by_long : x.page.progress.is_over ≡ true → next_of d.window (cursor_at big at) ≡ Long
 
-      is_long : (y : Reading) → is_long y ≡ true → y ≡ Long
-      is_long End e = absurd (false≢true e)
-      is_long Cut e = absurd (false≢true e)
-      is_long Long e = refl
-      is_long (Whole rec) e = absurd (false≢true e)
+      is_long_lem : (y : Reading) → is_long y ≡ true → y ≡ Long
+      is_long_lem End e = absurd (false≢true e)
+      is_long_lem Cut e = absurd (false≢true e)
+      is_long_lem Long e = refl
+      is_long_lem (Whole rec) e = absurd (false≢true e)
 
       why : Stops output d.window big 0 t.room x → Why
       why (no_record more none over) =
           record {
             by_no_record = λ e f. record { no_whole = whole_here ∙ none; no_long = long_here ∙ sym over ∙ f };
-            by_long = λ e. is_long (next_of d.window (cursor_at big at)) (sym over ∙ e);
+            by_long = λ e. is_long_lem (next_of d.window (cursor_at big at)) (sym over ∙ e);
           }
       why (no_room more over few) =
           record { by_no_record = λ e f. absurd (false≢true (sym e ∙ more)); by_long = λ e. absurd (false≢true (sym over ∙ e)) }
@@ -629,8 +629,8 @@ module _ (takes : ℕ) (output : Output) (big : Bool) (target : Told) (ended : R
         (then_more (before y d + 1) (left r) (told takes output big y)
         (omega (arith, got_any t out piece pieces fails g e, all_got t out piece pieces fails)) (told_then y d))
 
-    one_turn : (r : Run) → Going r → Then (left r) (one_turn takes output big r)
-    one_turn r g = go r.turn.stage.wants_bytes refl
+    one_turn_lem : (r : Run) → Going r → Then (left r) (one_turn takes output big r)
+    one_turn_lem r g = go r.turn.stage.wants_bytes refl
       where
         go : (b : Bool) → r.turn.stage.wants_bytes ≡ b → Then (left r) (one_turn takes output big r)
         go true e = a_read r.turn r.out r.input.pieces r.input.fails g e
@@ -651,7 +651,7 @@ module _ (takes : ℕ) (output : Output) (big : Bool) (target : Told) (ended : R
         (⊎_elim
         (λ n. run_so turns (one_turn takes output big r) n.0 (sym (ap (λ (y : Run). goes_on y.turn.stage) on) ∙ e))
         (λ o. subst Over (sym (stays turns (one_turn takes output big r) (over_stops (one_turn takes output big r) o))) o)
-        (one_turn r g))
+        (one_turn_lem r g))
 
     -- and so many turns are enough
     pub run_ends : (turns : ℕ) (r : Run) → Going r → left r < turns → goes_on (run takes output big turns r).turn.stage ≡ false
@@ -664,4 +664,4 @@ module _ (takes : ℕ) (output : Output) (big : Bool) (target : Told) (ended : R
         (λ n. run_ends turns (one_turn takes output big r) n.0 (omega (arith, n.1, h)))
         (λ o. ap (λ (y : Run). goes_on y.turn.stage) (stays turns (one_turn takes output big r) (over_stops (one_turn takes output big r) o))
         ∙ over_stops (one_turn takes output big r) o)
-        (one_turn r g)
+        (one_turn_lem r g)
