@@ -4,7 +4,7 @@
 
 ghost use Rattle.std.specs.Prelude.{◌≡◌};
 ghost use Rattle.rulings.specs.Rules.{rules_of};
-ghost use Rattle.gateway.specs.Calls.{lent};
+ghost use Rattle.gateway.specs.Calls.{state_of};
 ghost use Rattle.gateway.specs.Why.{why_of};
 ghost use Rattle.frames.specs.Frames.{frame_explained};
 ghost use Rattle.embed_why.specs.Plain.{plain_reason};
@@ -29,7 +29,7 @@ pub extern "C" fn spritgrommet_why<'a>(
 ) -> PlainReason
     ensures { result ≡ plain_reason
         (why_of (rules_of limits) limits cell.now plant.now time packet.now
-        (lent placing records tags counts clock)) }
+        (state_of placing records.now tags.now counts.now clock.now)) }
 {
     embed_why::spritgrommet_why(
         placing, cell, plant, records, tags, counts, clock, limits, time, packet,
@@ -52,7 +52,7 @@ pub extern "C" fn spritgrommet_why_frame<'a>(
 ) -> PlainReason
     ensures { result ≡ plain_reason
         (frame_explained (rules_of limits) limits cell.now plant.now time frame.now
-        (lent placing records tags counts clock)) }
+        (state_of placing records.now tags.now counts.now clock.now)) }
 {
     embed_why::spritgrommet_why_frame(
         placing, cell, plant, records, tags, counts, clock, limits, time, frame,
