@@ -26,7 +26,7 @@ use Rattle.feeding.specs.Feeding.{Replayed, replayed_of, fed}
 use Rattle.feeding.specs.Whole.{Told, told_in}
 use Rattle.feeding.proofs.Sizes.{AllSized}
 use Rattle.feeding.proofs.Whole.{is_long, is_whole, sofar, Stops, no_record, no_room, no_bytes, FedSome, fed_some}
-use Rattle.feeding.proofs.Pieces.{anew, begun_anew, told_in_pieces, window_due}
+use Rattle.feeding.proofs.Pieces.{anew, begun_anew as told_begun_anew, told_in_pieces, window_due}
 use Rattle.streams.specs.Streams.{Held, shifted}
 use Rattle.turns.specs.Turns.{begun_anew, refilled_stage, written_stage, wants_bytes, goes_on, ends_refused, Turn, turn_of, window_of, fed_of, taken_of, turn_taken}
 use Rattle.turns.specs.Runs.{Run, joined, AllFull, behind_first, free_of, read, refilled, put_in, is_taken, wrote, told, one_turn, run}
@@ -125,7 +125,7 @@ module _ (takes : ℕ) (output : Output) (big : Bool) (target : Told) (ended : R
       let records : List Record = (course_of l (cursor_at big (n + 0))).records in
       record {
         rest = (told_in output l records (anew t)).bytes;
-        is = ap (λ (u : Told). u.bytes) (sym d.due ∙ begun_anew output l records t);
+        is = ap (λ (u : Told). u.bytes) (sym d.due ∙ told_begun_anew output l records t);
       }
 
   -- ---- a run
@@ -338,7 +338,7 @@ module _ (takes : ℕ) (output : Output) (big : Bool) (target : Told) (ended : R
             refusals = some.so.refusals_is i;
             state = some.so.state_is i;
           })
-          ∙ sym (begun_anew output d.window course.records (told_so_far r))
+          ∙ sym (told_begun_anew output d.window course.records (told_so_far r))
 
       abbrev past_next : List ℕ
       past_next = d.past ++ take at d.window

@@ -1,6 +1,5 @@
 -- `lines::put_byte` meets its contract.
 -- Assumes nothing.
-use borrow.Author.Rules.{rules}
 use borrow.Author.Tests.{lt-ltb, le-ltb}
 use Rattle.lines.specs.Room.{put_byte}
 use Rattle.lines.proofs.put_byte.Goals as goal

@@ -1,6 +1,5 @@
 -- `lines::put_dotted` meets its contract: the first byte's number, and then the others, each after a dot.
 -- Assumes nothing.
-use borrow.Author.Rules.{rules}
 use Rattle.lines.proofs.Rooms.{text_then}
 use Rattle.lines.proofs.put_dotted.Goals as goal
 

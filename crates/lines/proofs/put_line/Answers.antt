@@ -1,6 +1,5 @@
 -- `lines::put_line` meets its contract, piece by piece.
 -- Assumes nothing.
-use borrow.Author.Rules.{rules}
 use Rattle.lines.proofs.Rooms.{text_then, byte_then, last_byte}
 use Rattle.lines.proofs.put_line.Goals as goal
 

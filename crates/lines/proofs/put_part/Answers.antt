@@ -1,6 +1,5 @@
 -- `lines::put_part` meets its contract: the dot, and then the number.
 -- Assumes nothing.
-use borrow.Author.Rules.{rules}
 use Rattle.lines.proofs.Rooms.{byte_then}
 use Rattle.lines.proofs.put_part.Goals as goal
 

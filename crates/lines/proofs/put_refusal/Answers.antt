@@ -1,6 +1,5 @@
 -- `lines::put_refusal` meets its contract: two bytes, and then the number.
 -- Assumes nothing.
-use borrow.Author.Rules.{rules}
 use Rattle.lines.proofs.Rooms.{text_then}
 use Rattle.lines.proofs.put_refusal.Goals as goal
 

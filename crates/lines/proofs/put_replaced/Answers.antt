@@ -1,6 +1,5 @@
 -- `lines::put_replaced` meets its contract, case by case.
 -- Assumes nothing.
-use borrow.Author.Rules.{rules}
 use Rattle.lines.proofs.Rooms.{last_byte}
 use Rattle.lines.proofs.put_replaced.Goals as goal
 

@@ -1,6 +1,5 @@
 -- `lines::put_signed` meets its contract, by the sign.
 -- Assumes nothing.
-use borrow.Author.Rules.{rules}
 use mir.Syntax.{w16}
 use mir.ValLaws.{to_z-of_z}
 use Rattle.lines.proofs.Rooms.{byte_then}

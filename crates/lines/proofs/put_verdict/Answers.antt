@@ -1,6 +1,5 @@
 -- `lines::put_verdict` meets its contract, piece by piece.
 -- Assumes nothing.
-use borrow.Author.Rules.{rules}
 use mir.Syntax.{w16}
 use mir.ValLaws.{to_z-of_z}
 use Rattle.lines.proofs.Rooms.{text_then, byte_then}
