@@ -161,38 +161,22 @@ fn finish_with<W: Write>(
     let placing = placing();
     let time = trial.time;
     let lent = &mut records[0..records_end];
-    let lent_tags = &mut tags[0..tags_end];
-    let lent_counts = &mut counts[0..counts_end];
+    let the_tags = &mut tags[0..tags_end];
+    let the_counts = &mut counts[0..counts_end];
+    let the_clock = &mut clock;
     match call {
         JUDGE => {
             let answer = gateway::judge(
-                placing,
-                cell,
-                plant,
-                lent,
-                lent_tags,
-                lent_counts,
-                &mut clock,
-                limits,
-                time,
-                packet,
+                placing, cell, plant, lent, the_tags, the_counts, the_clock, limits, time, packet,
             );
             lines::answer(out, answer)?;
         }
         PASS => {
-            let reply = gateway::pass(
-                placing,
-                lent,
-                lent_tags,
-                lent_counts,
-                &mut clock,
-                limits,
-                time,
-            );
+            let reply = gateway::pass(placing, lent, the_tags, the_counts, the_clock, limits, time);
             lines::reply(out, reply)?;
         }
         _ => {
-            let reply = start(limits, lent, lent_tags, lent_counts, &mut clock, time);
+            let reply = start(limits, lent, the_tags, the_counts, the_clock, time);
             lines::reply(out, reply)?;
         }
     }
