@@ -1,5 +1,5 @@
 /* Judges a capture on standard input by the proved gateway, and prints what bin/verdicts prints of it.
- *   rt staticlib embed && cc -Iinclude examples/judge.c target/staticlib/libembed.a -o judge && ./judge < examples/cell.pcap */
+ *   tools/archives && cc -Iinclude examples/judge.c target/staticlib/libembed.a -o judge && ./judge < examples/cell.pcap */
 #include <stdio.h>
 #include <stdlib.h>
 #include "spritgrommet.h"

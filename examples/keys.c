@@ -1,6 +1,6 @@
 /* A gateway runs on the keys that it started with, whatever becomes of the settings', and a start that is refused leaves it running. Prints
  * what two starts and a refused one are answered, and the packets after each.
- *   rt staticlib embed
+ *   tools/archives
  *   cc -Iinclude examples/keys.c target/staticlib/libembed.a -o keys && ./keys */
 #include "small.h"
 

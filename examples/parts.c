@@ -1,6 +1,6 @@
 /* Every function of the archives, over its parts: document 01's session of four packets is written as a capture, read again, and judged by
  * packets and by frames in turn. What it has to print follows from the documents, and stands in .ci/run.
- *   rt staticlib embed && rt staticlib embed_why
+ *   tools/archives
  *   cc -Iinclude examples/parts.c target/staticlib/libembed.a target/staticlib/libembed_why.a -o parts && ./parts */
 #include "spritgrommet.h"
 

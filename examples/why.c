@@ -1,6 +1,6 @@
 /* Asks a gateway why it would drop a packet: a reset from the cell that belongs to no connection, and prints the verdict and the facts that
  * would have let it through, and the entries of the side lists that decided. docs/WHY.md says what they mean.
- *   rt staticlib embed && rt staticlib embed_why
+ *   tools/archives
  *   cc -Iinclude examples/why.c target/staticlib/libembed.a target/staticlib/libembed_why.a -o why && ./why */
 #include "small.h"
 

@@ -1,5 +1,5 @@
-/* The gateway for programs in C and C++: link target/staticlib/libembed.a, which `rt staticlib embed` proves and writes. Who asks why a
- * packet is dropped (`spritgrommet_why` and what is made of it) also links libembed_why.a beside it, by `rt staticlib embed_why`.
+/* The gateway for programs in C and C++: link target/staticlib/libembed.a, which `tools/archives` proves and writes. Who asks why a packet is
+ * dropped (`spritgrommet_why` and what is made of it) also links libembed_why.a beside it.
  *
  * A gateway stands between a cell, which may be infected, and the plant. It judges each packet, and stops a machine of the cell that
  * keeps trying strangers. The caller owns all memory: settings, two side lists, the tables, the clock, and what a start answers for the
@@ -8,8 +8,8 @@
  *
  * What each call answers is proved for every input of the types below. What the prover cannot see is the caller's side of the boundary:
  * each pointer is aligned for its elements and leads to as many as the length beside it says, what is written overlaps nothing else that
- * the call is lent, and none is null (a length of 0 needs a pointer too, to anything). The archives are for x86-64 Linux; use the header
- * that stands beside it.
+ * the call is lent, and none is null (a length of 0 needs a pointer too, to anything). The archives are for Linux on x86-64, level v2
+ * (which has SSE4.2); use the header that stands beside it.
  *
  * Refusals: 0 where the call is not refused, and else
  *   1  a setting is outside its range

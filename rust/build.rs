@@ -1,5 +1,4 @@
-//! Links the archives that `rt staticlib embed` and `rt staticlib embed_why` write, in the folder that SPRITGROMMET_LIB names, or else in
-//! target/staticlib.
+//! Links the archives that `tools/archives` writes, in the folder that SPRITGROMMET_LIB names, or else in target/staticlib.
 use std::env;
 use std::path::Path;
 

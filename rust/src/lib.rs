@@ -1,7 +1,7 @@
-//! The proved gateway, for programs in Rust: a safe wrapper over the archives that `rt staticlib embed` and `rt staticlib embed_why` write.
+//! The proved gateway, for programs in Rust: a safe wrapper over the archives that `tools/archives` proves and writes.
 //! Nothing is decided here; include/spritgrommet.h says what each call does in the documents' words.
 //!
-//! Run both commands, and then in a program's Cargo.toml `spritgrommet = { path = ".../rust" }`. The archives are looked for in
+//! Run that command, and then in a program's Cargo.toml `spritgrommet = { path = ".../rust" }`. The archives are looked for in
 //! target/staticlib, or in the folder that SPRITGROMMET_LIB names. `cargo test` here needs them too.
 
 mod capture;

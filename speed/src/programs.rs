@@ -29,7 +29,7 @@ pub const PRINTING: Contest = Contest {
         with time, addresses, ports, flags, numbers and lengths. It runs as tcpdump -nn -S -r: -nn, so that it looks up no \
         names of addresses and ports, which would wait for other machines; -S, so that it does not search for each \
         connection's first sequence number, which would take longer than all the rest.",
-    proved: "target/bin/print_verdicts",
+    proved: "crates/print_verdicts/out/print_verdicts",
     second: "target/speed/release/second",
     tcpdump: (&["-nn", "-S", "-r"], &[]),
 };
@@ -40,7 +40,7 @@ pub const FORWARDING: Contest = Contest {
         The capture of table 4, and what each program writes goes to /dev/null, or through a pipe to cat. forwarded and the second \
         program wrote the same bytes. tcpdump -r CAPTURE -w - judges nothing and keeps no table: it reads every record and writes \
         it again.",
-    proved: "target/bin/forwarded",
+    proved: "crates/forwarded/out/forwarded",
     second: "target/speed/release/second_forwarded",
     tcpdump: (&["-r"], &["-w", "-"]),
 };

@@ -12,8 +12,14 @@ mod pairs;
 mod session;
 mod trials;
 
-fn main() {
-    pairs::run();
-    edges::run();
-    session::run();
+use std::io;
+use std::io::{BufWriter, Write};
+
+// A line that cannot be written ends it with that error.
+fn main(rt: HostRuntime) -> io::Result<()> {
+    let mut out = BufWriter::new(rt.alloc(), rt.stdout())?;
+    pairs::run(&mut out)?;
+    edges::run(&mut out)?;
+    session::run(&mut out)?;
+    out.flush()
 }

@@ -1,6 +1,8 @@
 // The inputs and calls of trials by number, and their names: settings, lengths of the tables, side lists (bytes, and the prefix length of
 // the first entry), time, and the packet (bytes, and what its IP header says).
 use crate::lines;
+use std::io;
+use std::io::Write;
 
 pub const NONE: usize = 0;
 
@@ -45,9 +47,9 @@ pub const PASS: usize = 19;
 pub const START: usize = 20;
 
 // Prints the name of an input by its number. Each name has nine bytes, so that a number finds it.
-pub fn print_name(number: usize) {
+pub fn print_name<W: Write>(out: &mut W, number: usize) -> io::Result<()> {
     let names: &[u8] =
         b"         T        Cmin     Dmiss    Dconn    records  tags     counts   cell     cell/    plant    plant/   time     bytes    version  words    total    protocol judge    pass     start    ";
     let from = number % 21 * 9;
-    lines::text(&names[from..from + 9]);
+    lines::text(out, &names[from..from + 9])
 }

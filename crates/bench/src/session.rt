@@ -5,6 +5,8 @@ use crate::{flags, lines, packets};
 use places::Placing;
 use rulings::answers::Answer;
 use settings::Settings;
+use std::io;
+use std::io::Write;
 use tally::Tally;
 
 const CELL_LIST: [u8; 5] = [10, 0, 0, 0, 8];
@@ -77,15 +79,16 @@ fn judge(
     )
 }
 
-fn print_turn(turn: u8, answer: Answer) {
-    lines::number(turn as u64);
-    lines::mark(b' ');
-    lines::answer(answer);
-    lines::mark(b'\n');
+fn print_turn<W: Write>(out: &mut W, turn: u8, answer: Answer) -> io::Result<()> {
+    lines::number(out, turn as u64)?;
+    lines::mark(out, b' ')?;
+    lines::answer(out, answer)?;
+    lines::mark(out, b'\n')
 }
 
 // The turns from one on, up to another that is not among them.
-fn judge_turns(
+fn judge_turns<W: Write>(
+    out: &mut W,
     placing: Placing,
     from: u8,
     to: u8,
@@ -93,37 +96,35 @@ fn judge_turns(
     tags: &mut [u32],
     counts: &mut [i16],
     clock: &mut u32,
-) -> Tally {
+) -> io::Result<Tally> {
     let mut tally = Tally::empty();
-    let mut turn = from;
-    while turn < to {
+    for turn in from..to {
         let answer = judge(placing, turn, records, tags, counts, clock);
-        print_turn(turn, answer);
+        print_turn(out, turn, answer)?;
         tally = tally.with(answer);
-        turn += 1;
     }
-    tally
+    Ok(tally)
 }
 
-fn print_total(total: u32) {
-    lines::mark(b' ');
-    lines::number(total as u64);
+fn print_total<W: Write>(out: &mut W, total: u32) -> io::Result<()> {
+    lines::mark(out, b' ')?;
+    lines::number(out, total as u64)
 }
 
-fn print_totals(totals: [u32; 7]) {
-    lines::text(b"tally");
-    print_total(totals[0]);
-    print_total(totals[1]);
-    print_total(totals[2]);
-    print_total(totals[3]);
-    print_total(totals[4]);
-    print_total(totals[5]);
-    print_total(totals[6]);
-    lines::mark(b'\n');
+fn print_totals<W: Write>(out: &mut W, totals: [u32; 7]) -> io::Result<()> {
+    lines::text(out, b"tally")?;
+    print_total(out, totals[0])?;
+    print_total(out, totals[1])?;
+    print_total(out, totals[2])?;
+    print_total(out, totals[3])?;
+    print_total(out, totals[4])?;
+    print_total(out, totals[5])?;
+    print_total(out, totals[6])?;
+    lines::mark(out, b'\n')
 }
 
 // The tables hold other things before the cold start, so that it has work to do.
-fn run_turns(from: u8, to: u8) {
+fn run_turns<W: Write>(out: &mut W, from: u8, to: u8) -> io::Result<()> {
     let mut records = [255u8; 4096];
     let mut tags = [7u32; 1024];
     let mut counts = [9i16; 1024];
@@ -138,6 +139,7 @@ fn run_turns(from: u8, to: u8) {
     );
     let placing = started.placing;
     let tally = judge_turns(
+        out,
         placing,
         from,
         to,
@@ -145,17 +147,17 @@ fn run_turns(from: u8, to: u8) {
         &mut tags,
         &mut counts,
         &mut clock,
-    );
+    )?;
     let totals = tally.totals;
-    print_totals(totals);
+    print_totals(out, totals)
 }
 
 // Prints document 01's session turn by turn, with the tally after it, then the two-hour incident, and the runs of `flags`.
-pub fn run() {
-    run_turns(1, 5);
-    run_turns(5, 29);
-    run_turns(29, 38);
-    run_turns(56, 96);
-    run_turns(96, 128);
-    run_turns(128, 192);
+pub fn run<W: Write>(out: &mut W) -> io::Result<()> {
+    run_turns(out, 1, 5)?;
+    run_turns(out, 5, 29)?;
+    run_turns(out, 29, 38)?;
+    run_turns(out, 56, 96)?;
+    run_turns(out, 96, 128)?;
+    run_turns(out, 128, 192)
 }

@@ -5,11 +5,13 @@ use crate::{lines, packets};
 use gateway::Reply;
 use places::Placing;
 use settings::{Limits, Settings};
+use std::io;
+use std::io::Write;
 
 const CLOCK: u32 = 100;
 
 // Of tables, side lists and packet a trial has the length that is lent; of each list the prefix length of its first entry too.
-#[derive(Drop)]
+#[derive(Clone, Copy)]
 pub struct Trial {
     pub limits: Limits,
     pub records: usize,
@@ -103,19 +105,17 @@ fn side_list(high: u8, low: u8, prefix: u8) -> [u8; 325] {
 // record, and a cold start or a minute clears one without marks. What was not lent is looked at too.
 fn is_kept(records: [u8; 32], tags: [u32; 32], counts: [i16; 32], clock: u32) -> bool {
     let mut kept = clock == CLOCK;
-    let mut i = 0usize;
-    while i < 32 {
+    for i in 0..32 {
         kept = kept & (records[i] == 9) & (tags[i] == 7) & (counts[i] == 5);
-        i += 1;
     }
     kept
 }
 
-fn print_kept(kept: bool) {
+fn print_kept<W: Write>(out: &mut W, kept: bool) -> io::Result<()> {
     if kept {
-        lines::text(b" kept\n");
+        lines::text(out, b" kept\n")
     } else {
-        lines::text(b" changed\n");
+        lines::text(out, b" changed\n")
     }
 }
 
@@ -142,7 +142,14 @@ fn start(
 }
 
 // Makes the call. What it is lent of each table is cut to what there is by a remainder; no trial asks for more.
-fn finish_with(call: usize, trial: Trial, cell: &[u8], plant: &[u8], packet: &[u8]) {
+fn finish_with<W: Write>(
+    out: &mut W,
+    call: usize,
+    trial: Trial,
+    cell: &[u8],
+    plant: &[u8],
+    packet: &[u8],
+) -> io::Result<()> {
     let mut records = [9u8; 32];
     let mut tags = [7u32; 32];
     let mut counts = [5i16; 32];
@@ -157,35 +164,44 @@ fn finish_with(call: usize, trial: Trial, cell: &[u8], plant: &[u8], packet: &[u
     let lent_tags = &mut tags[0..tags_end];
     let lent_counts = &mut counts[0..counts_end];
     match call {
-        JUDGE => lines::answer(gateway::judge(
-            placing,
-            cell,
-            plant,
-            lent,
-            lent_tags,
-            lent_counts,
-            &mut clock,
-            limits,
-            time,
-            packet,
-        )),
-        PASS => lines::reply(gateway::pass(
-            placing,
-            lent,
-            lent_tags,
-            lent_counts,
-            &mut clock,
-            limits,
-            time,
-        )),
-        _ => lines::reply(start(limits, lent, lent_tags, lent_counts, &mut clock, time)),
+        JUDGE => {
+            let answer = gateway::judge(
+                placing,
+                cell,
+                plant,
+                lent,
+                lent_tags,
+                lent_counts,
+                &mut clock,
+                limits,
+                time,
+                packet,
+            );
+            lines::answer(out, answer)?;
+        }
+        PASS => {
+            let reply = gateway::pass(
+                placing,
+                lent,
+                lent_tags,
+                lent_counts,
+                &mut clock,
+                limits,
+                time,
+            );
+            lines::reply(out, reply)?;
+        }
+        _ => {
+            let reply = start(limits, lent, lent_tags, lent_counts, &mut clock, time);
+            lines::reply(out, reply)?;
+        }
     }
-    print_kept(is_kept(records, tags, counts, clock));
+    print_kept(out, is_kept(records, tags, counts, clock))
 }
 
 // Makes the lists and the packet, and with them the call.
-pub fn finish_line(call: usize, trial: Trial) {
-    lines::text(b"= ");
+pub fn finish_line<W: Write>(out: &mut W, call: usize, trial: Trial) -> io::Result<()> {
+    lines::text(out, b"= ")?;
     let cell = side_list(10, 0, trial.cell_bits);
     let plant = side_list(192, 168, trial.plant_bits);
     let packet = packet_in(trial);
@@ -193,24 +209,27 @@ pub fn finish_line(call: usize, trial: Trial) {
     let plant_end = trial.plant % 326;
     let end = trial.bytes % 41;
     finish_with(
+        out,
         call,
         trial,
         &cell[0..cell_end],
         &plant[0..plant_end],
         &packet[0..end],
-    );
+    )
 }
 
-fn print_input(input: usize, value: u32) {
-    if input != NONE {
-        print_name(input);
-        lines::number(value as u64);
-        lines::mark(b' ');
+fn print_input<W: Write>(out: &mut W, input: usize, value: u32) -> io::Result<()> {
+    if input == NONE {
+        return Ok(());
     }
+    print_name(out, input)?;
+    lines::number(out, value as u64)?;
+    lines::mark(out, b' ')
 }
 
 // A call with up to three inputs changed.
-pub fn line(
+pub fn line<W: Write>(
+    out: &mut W,
     call: usize,
     input: usize,
     value: u32,
@@ -218,13 +237,13 @@ pub fn line(
     value_2: u32,
     input_3: usize,
     value_3: u32,
-) {
-    print_name(call);
-    print_input(input, value);
-    print_input(input_2, value_2);
-    print_input(input_3, value_3);
+) -> io::Result<()> {
+    print_name(out, call)?;
+    print_input(out, input, value)?;
+    print_input(out, input_2, value_2)?;
+    print_input(out, input_3, value_3)?;
     let once = changed(good(), input, value);
     let twice = changed(once, input_2, value_2);
     let trial = changed(twice, input_3, value_3);
-    finish_line(call, trial);
+    finish_line(out, call, trial)
 }

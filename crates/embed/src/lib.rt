@@ -1,6 +1,6 @@
-// The gateway for programs in C and Rust: its calls over plain numbers and lent memory. include/spritgrommet.h says what each of them
-// does and answers. Each function hands on to the crate that does the work; only
-// that a short frame is refused by 5 and a bad record by 8 is said here again.
+// The gateway's calls over plain numbers and lent memory, for programs in C and Rust: `embed_c` makes their archive. include/spritgrommet.h
+// says what each of them does and answers. Each function hands on to the crate that does the work; only that a short frame is refused by 5
+// and a bad record by 8 is said here again.
 #![tactic(auto)]
 
 ghost use Rattle.std.specs.Prelude.{◌≡◌};
@@ -27,16 +27,14 @@ use settings::{Limits, Settings};
 use tally::Tally;
 
 // The factory settings.
-#[unsafe(no_mangle)]
-pub extern "C" fn spritgrommet_factory() -> Settings
+pub fn spritgrommet_factory() -> Settings
     ensures { result ≡ factory_settings }
 {
     Settings::factory()
 }
 
 // Starts cold at a time. The answer is the number of the refusal, or 0, and what places packets in the tables, for the calls that follow.
-#[unsafe(no_mangle)]
-pub extern "C" fn spritgrommet_cold_start(
+pub fn spritgrommet_cold_start(
     set: Settings,
     records: &mut [u8],
     tags: &mut [u32],
@@ -51,8 +49,7 @@ pub extern "C" fn spritgrommet_cold_start(
 }
 
 // Passes a time, with no packet. The answer is the number of the refusal, or 0.
-#[unsafe(no_mangle)]
-pub extern "C" fn spritgrommet_pass(
+pub fn spritgrommet_pass(
     placing: Placing,
     records: &mut [u8],
     tags: &mut [u32],
@@ -69,8 +66,7 @@ pub extern "C" fn spritgrommet_pass(
 }
 
 // Judges a packet, from its IPv4 header on, that comes at a time. The answer is the refusal, or the verdict with what belongs to it.
-#[unsafe(no_mangle)]
-pub extern "C" fn spritgrommet_judge(
+pub fn spritgrommet_judge(
     placing: Placing,
     cell: &[u8],
     plant: &[u8],
@@ -94,8 +90,7 @@ pub extern "C" fn spritgrommet_judge(
 }
 
 // Judges what an Ethernet frame that comes at a time carries. The answer is as for a packet.
-#[unsafe(no_mangle)]
-pub extern "C" fn spritgrommet_judge_frame(
+pub fn spritgrommet_judge_frame(
     placing: Placing,
     cell: &[u8],
     plant: &[u8],
@@ -127,64 +122,56 @@ pub extern "C" fn spritgrommet_judge_frame(
 }
 
 // The entry of the side lists that decides on an address: whose list has it, and its place there.
-#[unsafe(no_mangle)]
-pub extern "C" fn spritgrommet_winner(cell: &[u8], plant: &[u8], address: u32) -> PlainWinner
+pub fn spritgrommet_winner(cell: &[u8], plant: &[u8], address: u32) -> PlainWinner
     ensures { result ≡ plain_winner (winning_of cell.now plant.now address) }
 {
     plain::of_winning(sides::winning_entry(cell, plant, address))
 }
 
 // The address permutation E of a word, under eight round keys.
-#[unsafe(no_mangle)]
-pub extern "C" fn spritgrommet_encrypt(keys: &[u32; 8], word: u32) -> u32
+pub fn spritgrommet_encrypt(keys: &[u32; 8], word: u32) -> u32
     ensures { result ≡ E keys.now word }
 {
     permute::encrypt(keys, word)
 }
 
 // The inverse of E, of a word, under the same keys.
-#[unsafe(no_mangle)]
-pub extern "C" fn spritgrommet_decrypt(keys: &[u32; 8], word: u32) -> u32
+pub fn spritgrommet_decrypt(keys: &[u32; 8], word: u32) -> u32
     ensures { result ≡ D keys.now word }
 {
     permute::decrypt(keys, word)
 }
 
 // Adds an answer's verdict to the tally that is lent. A refusal adds nothing.
-#[unsafe(no_mangle)]
-pub extern "C" fn spritgrommet_tally(tally: &mut Tally, answer: PlainAnswer)
+pub fn spritgrommet_tally(tally: &mut Tally, answer: PlainAnswer)
     ensures { tally.new ≡ tallied tally.old (verdict_in answer) }
 {
     *tally = plain::tally_with(*tally, answer);
 }
 
 // Reads a capture's header. The answer is refusal 7, or where the first record starts.
-#[unsafe(no_mangle)]
-pub extern "C" fn spritgrommet_open(bytes: &[u8]) -> PlainOpening
+pub fn spritgrommet_open(bytes: &[u8]) -> PlainOpening
     ensures { result ≡ plain_opening (opened_of bytes.now) }
 {
     plain::of_opened(capture::open(bytes))
 }
 
 // Reads the capture's record at a cursor. The answer is refusal 8, that no byte is left, or the record.
-#[unsafe(no_mangle)]
-pub extern "C" fn spritgrommet_next(bytes: &[u8], cursor: Cursor) -> PlainNext
+pub fn spritgrommet_next(bytes: &[u8], cursor: Cursor) -> PlainNext
     ensures { result ≡ plain_next (next_of bytes.now cursor) }
 {
     plain::of_reading(capture::next(bytes, cursor))
 }
 
 // Writes a capture's header into the room at a place. The answer is refusal 9, or the place of the first record.
-#[unsafe(no_mangle)]
-pub extern "C" fn spritgrommet_put_header(room: &mut [u8], at: usize) -> PlainWritten
+pub fn spritgrommet_put_header(room: &mut [u8], at: usize) -> PlainWritten
     ensures { plain_put_of result room.new ≡ plain_put (header_put at room.old) }
 {
     plain::of_written(capture::put_header(room, at))
 }
 
 // Writes a record into the room at a place. The answer is refusal 8 or 9, or the place of the next record.
-#[unsafe(no_mangle)]
-pub extern "C" fn spritgrommet_put_record(
+pub fn spritgrommet_put_record(
     room: &mut [u8],
     at: usize,
     seconds: u32,

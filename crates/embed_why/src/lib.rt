@@ -1,5 +1,5 @@
-// Why a packet was dropped, for programs in C and Rust: in an archive of its own, so that the one with the judge has each of its parts once, in
-// the function that is called for every packet. include/spritgrommet.h says what each call does and answers.
+// Why a packet was dropped, for programs in C and Rust. `embed_why_c` makes an archive of its own of it, so that the one with the judge has
+// each of its parts once, in the function that is called for every packet. include/spritgrommet.h says what each call does and answers.
 #![tactic(auto)]
 
 ghost use Rattle.std.specs.Prelude.{◌≡◌};
@@ -16,8 +16,7 @@ use plain::PlainReason;
 use settings::Limits;
 
 // Why a packet, from its IPv4 header on, that comes at a time is dropped. Tables and clock are only read.
-#[unsafe(no_mangle)]
-pub extern "C" fn spritgrommet_why<'a>(
+pub fn spritgrommet_why<'a>(
     placing: Placing,
     cell: &'a [u8],
     plant: &'a [u8],
@@ -40,8 +39,7 @@ pub extern "C" fn spritgrommet_why<'a>(
 }
 
 // Why what an Ethernet frame that comes at a time carries is dropped. Tables and clock are only read.
-#[unsafe(no_mangle)]
-pub extern "C" fn spritgrommet_why_frame<'a>(
+pub fn spritgrommet_why_frame<'a>(
     placing: Placing,
     cell: &'a [u8],
     plant: &'a [u8],

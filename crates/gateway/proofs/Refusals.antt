@@ -81,7 +81,7 @@ module _ (limits : Limits) (time : ℕ) (before : State) where
       unfolding judged
       packet_told =
           told refusal_told Refused before (accepted rules limits (header_of bytes) (direction_in cell plant (header_of bytes)) time before) (λ n. refl)
-              (not_told before.placing (header_of bytes) (direction_in cell plant (header_of bytes)) _) (packet_refusal limits cell plant time bytes before)
+          (not_told before.placing (header_of bytes) (direction_in cell plant (header_of bytes)) _) (packet_refusal limits cell plant time bytes before)
 
       pub packet_kept : (packet_refusal limits cell plant time bytes before ≡ 0 → ⊥) → (judged rules limits cell plant time bytes before).state ≡ before
       unfolding judged

@@ -2,140 +2,141 @@
 -- equal. An outcome is what is returned and all that is left in lent memory; `Learnt` is what a contract tells its caller. tools/one-outcome
 -- writes this file from the sources.
 -- Assumes nothing.
-use Rattle.arguments.proofs.record_number.Reads as arguments-record-number
-use Rattle.capture.proofs.next.Reads as capture-next
-use Rattle.capture.proofs.open.Reads as capture-open
-use Rattle.capture.proofs.put_header.Reads as capture-put-header
-use Rattle.capture.proofs.put_record.Reads as capture-put-record
+use Rattle.arguments.proofs.record_number.Reads as arguments_record_number
+use Rattle.capture.proofs.next.Reads as capture_next
+use Rattle.capture.proofs.open.Reads as capture_open
+use Rattle.capture.proofs.put_header.Reads as capture_put_header
+use Rattle.capture.proofs.put_record.Reads as capture_put_record
 use Rattle.capture.specs.Writing.{put_of}
-use Rattle.cold.proofs.fill.Reads as cold-fill
-use Rattle.counts.proofs.decay_all.Reads as counts-decay-all
-use Rattle.counts.proofs.decayed.Reads as counts-decayed
-use Rattle.counts.proofs.is_blocked.Reads as counts-is-blocked
-use Rattle.counts.proofs.is_empty.Reads as counts-is-empty
-use Rattle.counts.proofs.lowered.Reads as counts-lowered
-use Rattle.counts.proofs.raised.Reads as counts-raised
-use Rattle.embed.proofs.plain.of_answer.Reads as embed-plain-of-answer
-use Rattle.embed.proofs.plain.of_opened.Reads as embed-plain-of-opened
-use Rattle.embed.proofs.plain.of_reading.Reads as embed-plain-of-reading
-use Rattle.embed.proofs.plain.of_reply.Reads as embed-plain-of-reply
-use Rattle.embed.proofs.plain.of_started.Reads as embed-plain-of-started
-use Rattle.embed.proofs.plain.of_winning.Reads as embed-plain-of-winning
-use Rattle.embed.proofs.plain.of_written.Reads as embed-plain-of-written
-use Rattle.embed.proofs.plain.tally_with.Reads as embed-plain-tally-with
-use Rattle.embed.proofs.spritgrommet_cold_start.Reads as embed-spritgrommet-cold-start
-use Rattle.embed.proofs.spritgrommet_decrypt.Reads as embed-spritgrommet-decrypt
-use Rattle.embed.proofs.spritgrommet_encrypt.Reads as embed-spritgrommet-encrypt
-use Rattle.embed.proofs.spritgrommet_factory.Reads as embed-spritgrommet-factory
-use Rattle.embed.proofs.spritgrommet_judge.Reads as embed-spritgrommet-judge
-use Rattle.embed.proofs.spritgrommet_judge_frame.Reads as embed-spritgrommet-judge-frame
-use Rattle.embed.proofs.spritgrommet_next.Reads as embed-spritgrommet-next
-use Rattle.embed.proofs.spritgrommet_open.Reads as embed-spritgrommet-open
-use Rattle.embed.proofs.spritgrommet_pass.Reads as embed-spritgrommet-pass
-use Rattle.embed.proofs.spritgrommet_put_header.Reads as embed-spritgrommet-put-header
-use Rattle.embed.proofs.spritgrommet_put_record.Reads as embed-spritgrommet-put-record
-use Rattle.embed.proofs.spritgrommet_winner.Reads as embed-spritgrommet-winner
+use Rattle.cold.proofs.fill.Reads as cold_fill
+use Rattle.counts.proofs.decay_all.Reads as counts_decay_all
+use Rattle.counts.proofs.decayed.Reads as counts_decayed
+use Rattle.counts.proofs.is_blocked.Reads as counts_is_blocked
+use Rattle.counts.proofs.is_empty.Reads as counts_is_empty
+use Rattle.counts.proofs.lowered.Reads as counts_lowered
+use Rattle.counts.proofs.raised.Reads as counts_raised
+use Rattle.embed.proofs.plain.of_answer.Reads as embed_plain_of_answer
+use Rattle.embed.proofs.plain.of_opened.Reads as embed_plain_of_opened
+use Rattle.embed.proofs.plain.of_reading.Reads as embed_plain_of_reading
+use Rattle.embed.proofs.plain.of_reply.Reads as embed_plain_of_reply
+use Rattle.embed.proofs.plain.of_started.Reads as embed_plain_of_started
+use Rattle.embed.proofs.plain.of_winning.Reads as embed_plain_of_winning
+use Rattle.embed.proofs.plain.of_written.Reads as embed_plain_of_written
+use Rattle.embed.proofs.plain.tally_with.Reads as embed_plain_tally_with
+use Rattle.embed.proofs.spritgrommet_cold_start.Reads as embed_spritgrommet_cold_start
+use Rattle.embed.proofs.spritgrommet_decrypt.Reads as embed_spritgrommet_decrypt
+use Rattle.embed.proofs.spritgrommet_encrypt.Reads as embed_spritgrommet_encrypt
+use Rattle.embed.proofs.spritgrommet_factory.Reads as embed_spritgrommet_factory
+use Rattle.embed.proofs.spritgrommet_judge.Reads as embed_spritgrommet_judge
+use Rattle.embed.proofs.spritgrommet_judge_frame.Reads as embed_spritgrommet_judge_frame
+use Rattle.embed.proofs.spritgrommet_next.Reads as embed_spritgrommet_next
+use Rattle.embed.proofs.spritgrommet_open.Reads as embed_spritgrommet_open
+use Rattle.embed.proofs.spritgrommet_pass.Reads as embed_spritgrommet_pass
+use Rattle.embed.proofs.spritgrommet_put_header.Reads as embed_spritgrommet_put_header
+use Rattle.embed.proofs.spritgrommet_put_record.Reads as embed_spritgrommet_put_record
+use Rattle.embed.proofs.spritgrommet_tally.Reads as embed_spritgrommet_tally
+use Rattle.embed.proofs.spritgrommet_winner.Reads as embed_spritgrommet_winner
 use Rattle.embed.specs.Plain.{plain_put_of}
-use Rattle.embed_why.proofs.plain.of_explanation.Reads as embed-why-plain-of-explanation
-use Rattle.embed_why.proofs.spritgrommet_why.Reads as embed-why-spritgrommet-why
-use Rattle.embed_why.proofs.spritgrommet_why_frame.Reads as embed-why-spritgrommet-why-frame
-use Rattle.endings.proofs.one_more.Reads as endings-one-more
-use Rattle.endings.proofs.put_ending.Reads as endings-put-ending
-use Rattle.endings.proofs.put_refused_header.Reads as endings-put-refused-header
-use Rattle.entries.proofs.count_of.Reads as entries-count-of
-use Rattle.entries.proofs.write.Reads as entries-write
+use Rattle.embed_why.proofs.plain.of_explanation.Reads as embed_why_plain_of_explanation
+use Rattle.embed_why.proofs.spritgrommet_why.Reads as embed_why_spritgrommet_why
+use Rattle.embed_why.proofs.spritgrommet_why_frame.Reads as embed_why_spritgrommet_why_frame
+use Rattle.endings.proofs.one_more.Reads as endings_one_more
+use Rattle.endings.proofs.put_ending.Reads as endings_put_ending
+use Rattle.endings.proofs.put_refused_header.Reads as endings_put_refused_header
+use Rattle.entries.proofs.count_of.Reads as entries_count_of
+use Rattle.entries.proofs.write.Reads as entries_write
 use Rattle.entries.specs.Entries.{written_of}
-use Rattle.explanations.proofs.put_asked.Reads as explanations-put-asked
-use Rattle.feeding.proofs.feed.Reads as feeding-feed
+use Rattle.explanations.proofs.put_asked.Reads as explanations_put_asked
+use Rattle.feeding.proofs.feed.Reads as feeding_feed
 use Rattle.feeding.specs.Feeding.{replayed_of}
-use Rattle.frames.proofs.judge.Reads as frames-judge
-use Rattle.frames.proofs.what_is_in.Reads as frames-what-is-in
-use Rattle.frames.proofs.why.Reads as frames-why
-use Rattle.gateway.proofs.cold_start.Reads as gateway-cold-start
-use Rattle.gateway.proofs.judge.Reads as gateway-judge
-use Rattle.gateway.proofs.pass.Reads as gateway-pass
-use Rattle.gateway.proofs.why.Reads as gateway-why
+use Rattle.frames.proofs.judge.Reads as frames_judge
+use Rattle.frames.proofs.what_is_in.Reads as frames_what_is_in
+use Rattle.frames.proofs.why.Reads as frames_why
+use Rattle.gateway.proofs.cold_start.Reads as gateway_cold_start
+use Rattle.gateway.proofs.judge.Reads as gateway_judge
+use Rattle.gateway.proofs.pass.Reads as gateway_pass
+use Rattle.gateway.proofs.why.Reads as gateway_why
 use Rattle.gateway.specs.Calls.{left_state}
 use Rattle.gateway.specs.Calls.{left}
-use Rattle.lines.proofs.put_byte.Reads as lines-put-byte
-use Rattle.lines.proofs.put_decimal.Reads as lines-put-decimal
-use Rattle.lines.proofs.put_dotted.Reads as lines-put-dotted
-use Rattle.lines.proofs.put_last_line.Reads as lines-put-last-line
-use Rattle.lines.proofs.put_line.Reads as lines-put-line
-use Rattle.lines.proofs.put_signed.Reads as lines-put-signed
-use Rattle.lines.proofs.put_text.Reads as lines-put-text
+use Rattle.lines.proofs.put_byte.Reads as lines_put_byte
+use Rattle.lines.proofs.put_decimal.Reads as lines_put_decimal
+use Rattle.lines.proofs.put_dotted.Reads as lines_put_dotted
+use Rattle.lines.proofs.put_last_line.Reads as lines_put_last_line
+use Rattle.lines.proofs.put_line.Reads as lines_put_line
+use Rattle.lines.proofs.put_signed.Reads as lines_put_signed
+use Rattle.lines.proofs.put_text.Reads as lines_put_text
 use Rattle.lines.specs.Room.{left_room}
-use Rattle.outputs.proofs.asks_why.Reads as outputs-asks-why
-use Rattle.outputs.proofs.put_opening.Reads as outputs-put-opening
-use Rattle.outputs.proofs.put_told.Reads as outputs-put-told
-use Rattle.packet.proofs.Header.port.Reads as packet-header-port
-use Rattle.packet.proofs.kinds.of_flags.Reads as packet-kinds-of-flags
-use Rattle.packet.proofs.read.Reads as packet-read
-use Rattle.permute.proofs.decrypt.Reads as permute-decrypt
-use Rattle.permute.proofs.encrypt.Reads as permute-encrypt
-use Rattle.places.proofs.address_of.Reads as places-address-of
-use Rattle.places.proofs.place_of.Reads as places-place-of
-use Rattle.places.proofs.slot.Reads as places-slot
-use Rattle.reasons.proofs.report.Reads as reasons-report
-use Rattle.records.proofs.age_all.Reads as records-age-all
-use Rattle.records.proofs.aged.Reads as records-aged
-use Rattle.records.proofs.marks_of.Reads as records-marks-of
-use Rattle.records.proofs.renewed.Reads as records-renewed
-use Rattle.refusals.proofs.of_packet.Reads as refusals-of-packet
-use Rattle.refusals.proofs.of_start.Reads as refusals-of-start
-use Rattle.refusals.proofs.of_time.Reads as refusals-of-time
-use Rattle.replay.proofs.next.Reads as replay-next
+use Rattle.outputs.proofs.asks_why.Reads as outputs_asks_why
+use Rattle.outputs.proofs.put_opening.Reads as outputs_put_opening
+use Rattle.outputs.proofs.put_told.Reads as outputs_put_told
+use Rattle.packet.proofs.Header.port.Reads as packet_header_port
+use Rattle.packet.proofs.kinds.of_flags.Reads as packet_kinds_of_flags
+use Rattle.packet.proofs.read.Reads as packet_read
+use Rattle.permute.proofs.decrypt.Reads as permute_decrypt
+use Rattle.permute.proofs.encrypt.Reads as permute_encrypt
+use Rattle.places.proofs.address_of.Reads as places_address_of
+use Rattle.places.proofs.place_of.Reads as places_place_of
+use Rattle.places.proofs.slot.Reads as places_slot
+use Rattle.reasons.proofs.report.Reads as reasons_report
+use Rattle.records.proofs.age_all.Reads as records_age_all
+use Rattle.records.proofs.aged.Reads as records_aged
+use Rattle.records.proofs.marks_of.Reads as records_marks_of
+use Rattle.records.proofs.renewed.Reads as records_renewed
+use Rattle.refusals.proofs.of_packet.Reads as refusals_of_packet
+use Rattle.refusals.proofs.of_start.Reads as refusals_of_start
+use Rattle.refusals.proofs.of_time.Reads as refusals_of_time
+use Rattle.replay.proofs.next.Reads as replay_next
 use Rattle.replay.specs.Replay.{program_placing}
-use Rattle.rulings.proofs.ruling_of.Reads as rulings-ruling-of
-use Rattle.settings.proofs.Limits.is_bad.Reads as settings-limits-is-bad
-use Rattle.settings.proofs.Settings.factory.Reads as settings-settings-factory
-use Rattle.settings.proofs.Settings.with_threshold.Reads as settings-settings-with-threshold
-use Rattle.sides.proofs.bad_list.Reads as sides-bad-list
-use Rattle.sides.proofs.direction_between.Reads as sides-direction-between
-use Rattle.sides.proofs.entry_in.Reads as sides-entry-in
-use Rattle.sides.proofs.winner.Reads as sides-winner
-use Rattle.sides.proofs.winning_entry.Reads as sides-winning-entry
-use Rattle.streams.proofs.shift.Reads as streams-shift
-use Rattle.streams.proofs.within.Reads as streams-within
+use Rattle.rulings.proofs.ruling_of.Reads as rulings_ruling_of
+use Rattle.settings.proofs.Limits.is_bad.Reads as settings_limits_is_bad
+use Rattle.settings.proofs.Settings.factory.Reads as settings_settings_factory
+use Rattle.settings.proofs.Settings.with_threshold.Reads as settings_settings_with_threshold
+use Rattle.sides.proofs.bad_list.Reads as sides_bad_list
+use Rattle.sides.proofs.direction_between.Reads as sides_direction_between
+use Rattle.sides.proofs.entry_in.Reads as sides_entry_in
+use Rattle.sides.proofs.winner.Reads as sides_winner
+use Rattle.sides.proofs.winning_entry.Reads as sides_winning_entry
+use Rattle.streams.proofs.shift.Reads as streams_shift
+use Rattle.streams.proofs.within.Reads as streams_within
 use Rattle.streams.specs.Streams.{held_of}
-use Rattle.tables.proofs.clock.multiples_passed.Reads as tables-clock-multiples-passed
-use Rattle.tables.proofs.clock.pass.Reads as tables-clock-pass
-use Rattle.tables.proofs.sizes.bad_sizes.Reads as tables-sizes-bad-sizes
+use Rattle.tables.proofs.clock.multiples_passed.Reads as tables_clock_multiples_passed
+use Rattle.tables.proofs.clock.pass.Reads as tables_clock_pass
+use Rattle.tables.proofs.sizes.bad_sizes.Reads as tables_sizes_bad_sizes
 use Rattle.tables.specs.Clock.{timed_of}
 use Rattle.tables.specs.Tables.{left_tables}
-use Rattle.tally.proofs.Tally.empty.Reads as tally-tally-empty
-use Rattle.tally.proofs.Tally.with.Reads as tally-tally-with
-use Rattle.tally.proofs.Tally.with_verdict.Reads as tally-tally-with-verdict
-use Rattle.turns.proofs.begin.Reads as turns-begin
-use Rattle.turns.proofs.beginning_goes_to.Reads as turns-beginning-goes-to
-use Rattle.turns.proofs.ending_goes_to.Reads as turns-ending-goes-to
-use Rattle.turns.proofs.first.Reads as turns-first
-use Rattle.turns.proofs.goes_on.Reads as turns-goes-on
-use Rattle.turns.proofs.has_failed.Reads as turns-has-failed
-use Rattle.turns.proofs.is_early.Reads as turns-is-early
-use Rattle.turns.proofs.is_sound.Reads as turns-is-sound
-use Rattle.turns.proofs.lacks_header.Reads as turns-lacks-header
-use Rattle.turns.proofs.put_end.Reads as turns-put-end
-use Rattle.turns.proofs.put_lost.Reads as turns-put-lost
-use Rattle.turns.proofs.put_missing.Reads as turns-put-missing
-use Rattle.turns.proofs.refilled.Reads as turns-refilled
-use Rattle.turns.proofs.take.Reads as turns-take
-use Rattle.turns.proofs.written.Reads as turns-written
+use Rattle.tally.proofs.Tally.empty.Reads as tally_tally_empty
+use Rattle.tally.proofs.Tally.with.Reads as tally_tally_with
+use Rattle.tally.proofs.Tally.with_verdict.Reads as tally_tally_with_verdict
+use Rattle.turns.proofs.begin.Reads as turns_begin
+use Rattle.turns.proofs.beginning_goes_to.Reads as turns_beginning_goes_to
+use Rattle.turns.proofs.ending_goes_to.Reads as turns_ending_goes_to
+use Rattle.turns.proofs.first.Reads as turns_first
+use Rattle.turns.proofs.goes_on.Reads as turns_goes_on
+use Rattle.turns.proofs.has_failed.Reads as turns_has_failed
+use Rattle.turns.proofs.is_early.Reads as turns_is_early
+use Rattle.turns.proofs.is_sound.Reads as turns_is_sound
+use Rattle.turns.proofs.lacks_header.Reads as turns_lacks_header
+use Rattle.turns.proofs.put_end.Reads as turns_put_end
+use Rattle.turns.proofs.put_lost.Reads as turns_put_lost
+use Rattle.turns.proofs.put_missing.Reads as turns_put_missing
+use Rattle.turns.proofs.refilled.Reads as turns_refilled
+use Rattle.turns.proofs.take.Reads as turns_take
+use Rattle.turns.proofs.written.Reads as turns_written
 use Rattle.turns.specs.Turns.{beginning_of}
 use Rattle.turns.specs.Turns.{turn_of}
-use Rattle.verdicts.proofs.is_dropped.Reads as verdicts-is-dropped
-use Rattle.verdicts.proofs.number.Reads as verdicts-number
-use Rattle.verdicts.proofs.record_after.Reads as verdicts-record-after
-use Rattle.verdicts.proofs.verdict_of.Reads as verdicts-verdict-of
-use Rattle.words.proofs.four_at.Reads as words-four-at
-use Rattle.words.proofs.four_in.Reads as words-four-in
-use Rattle.words.proofs.has_room.Reads as words-has-room
-use Rattle.words.proofs.of_four.Reads as words-of-four
-use Rattle.words.proofs.store.Reads as words-store
-use Rattle.words.proofs.store_four.Reads as words-store-four
-use Rattle.words.proofs.store_two.Reads as words-store-two
-use Rattle.words.proofs.two_at.Reads as words-two-at
-use Rattle.words.proofs.two_in.Reads as words-two-in
+use Rattle.verdicts.proofs.is_dropped.Reads as verdicts_is_dropped
+use Rattle.verdicts.proofs.number.Reads as verdicts_number
+use Rattle.verdicts.proofs.record_after.Reads as verdicts_record_after
+use Rattle.verdicts.proofs.verdict_of.Reads as verdicts_verdict_of
+use Rattle.words.proofs.four_at.Reads as words_four_at
+use Rattle.words.proofs.four_in.Reads as words_four_in
+use Rattle.words.proofs.has_room.Reads as words_has_room
+use Rattle.words.proofs.of_four.Reads as words_of_four
+use Rattle.words.proofs.store.Reads as words_store
+use Rattle.words.proofs.store_four.Reads as words_store_four
+use Rattle.words.proofs.store_two.Reads as words_store_two
+use Rattle.words.proofs.two_at.Reads as words_two_at
+use Rattle.words.proofs.two_in.Reads as words_two_in
 use denote.Triple.Both.{Both}
 use mathlib.Core.Path.{◌≡◌, sym, ◌∙◌}
 
@@ -151,373 +152,374 @@ both x = record { entry = x; exit = x }
 same : {O : Type 0} {x y d : O} → x ≡ d → y ≡ d → x ≡ y
 same p q = p ∙ sym q
 
-pub words_of_four_one : (κs : _) (a : _) → One (words-of-four.Learnt κs a) (λ x s. x)
+pub words_of_four_one : (κs : _) (a : _) → One (words_of_four.Learnt κs a) (λ x s. x)
 words_of_four_one κs a x y s t p q = same p q
 
-pub words_two_in_one : (κs : _) (a : _) → One (words-two-in.Learnt κs a) (λ x s. x)
+pub words_two_in_one : (κs : _) (a : _) → One (words_two_in.Learnt κs a) (λ x s. x)
 words_two_in_one κs a x y s t p q = same p q
 
-pub words_four_in_one : (κs : _) (a : _) → One (words-four-in.Learnt κs a) (λ x s. x)
+pub words_four_in_one : (κs : _) (a : _) → One (words_four_in.Learnt κs a) (λ x s. x)
 words_four_in_one κs a x y s t p q = same p q
 
-pub words_two_at_one : (κs : _) (a : _) → One (words-two-at.Learnt κs a) (λ x s. x)
+pub words_two_at_one : (κs : _) (a : _) → One (words_two_at.Learnt κs a) (λ x s. x)
 words_two_at_one κs a x y s t p q = same p q
 
-pub words_four_at_one : (κs : _) (a : _) → One (words-four-at.Learnt κs a) (λ x s. x)
+pub words_four_at_one : (κs : _) (a : _) → One (words_four_at.Learnt κs a) (λ x s. x)
 words_four_at_one κs a x y s t p q = same p q
 
-pub words_has_room_one : (κs : _) (a : _) → One (words-has-room.Learnt κs a) (λ x s. x)
+pub words_has_room_one : (κs : _) (a : _) → One (words_has_room.Learnt κs a) (λ x s. x)
 words_has_room_one κs a x y s t p q = same p q
 
-pub words_store_one : (κs : _) (a : _) → One (words-store.Learnt κs a) (λ x s. s.0.now)
+pub words_store_one : (κs : _) (a : _) → One (words_store.Learnt κs a) (λ x s. s.0.now)
 words_store_one κs a x y s t p q = same p q
 
-pub words_store_two_one : (κs : _) (a : _) → One (words-store-two.Learnt κs a) (λ x s. s.0.now)
+pub words_store_two_one : (κs : _) (a : _) → One (words_store_two.Learnt κs a) (λ x s. s.0.now)
 words_store_two_one κs a x y s t p q = same p q
 
-pub words_store_four_one : (κs : _) (a : _) → One (words-store-four.Learnt κs a) (λ x s. s.0.now)
+pub words_store_four_one : (κs : _) (a : _) → One (words_store_four.Learnt κs a) (λ x s. s.0.now)
 words_store_four_one κs a x y s t p q = same p q
 
-pub settings_settings_factory_one : (κs : _) (a : _) → One (settings-settings-factory.Learnt κs a) (λ x s. x)
+pub settings_settings_factory_one : (κs : _) (a : _) → One (settings_settings_factory.Learnt κs a) (λ x s. x)
 settings_settings_factory_one κs a x y s t p q = same p.0 q.0
 
-pub settings_settings_with_threshold_one : (κs : _) (a : _) → One (settings-settings-with-threshold.Learnt κs a) (λ x s. x)
+pub settings_settings_with_threshold_one : (κs : _) (a : _) → One (settings_settings_with_threshold.Learnt κs a) (λ x s. x)
 settings_settings_with_threshold_one κs a x y s t p q = same p q
 
-pub settings_limits_is_bad_one : (κs : _) (a : _) → One (settings-limits-is-bad.Learnt κs a) (λ x s. x)
+pub settings_limits_is_bad_one : (κs : _) (a : _) → One (settings_limits_is_bad.Learnt κs a) (λ x s. x)
 settings_limits_is_bad_one κs a x y s t p q = same p q
 
-pub permute_encrypt_one : (κs : _) (a : _) → One (permute-encrypt.Learnt κs a) (λ x s. x)
+pub permute_encrypt_one : (κs : _) (a : _) → One (permute_encrypt.Learnt κs a) (λ x s. x)
 permute_encrypt_one κs a x y s t p q = same p q
 
-pub permute_decrypt_one : (κs : _) (a : _) → One (permute-decrypt.Learnt κs a) (λ x s. x)
+pub permute_decrypt_one : (κs : _) (a : _) → One (permute_decrypt.Learnt κs a) (λ x s. x)
 permute_decrypt_one κs a x y s t p q = same p q
 
-pub places_slot_one : (κs : _) (a : _) → One (places-slot.Learnt κs a) (λ x s. x)
+pub places_slot_one : (κs : _) (a : _) → One (places_slot.Learnt κs a) (λ x s. x)
 places_slot_one κs a x y s t p q = same p q
 
-pub places_place_of_one : (κs : _) (a : _) → One (places-place-of.Learnt κs a) (λ x s. x)
+pub places_place_of_one : (κs : _) (a : _) → One (places_place_of.Learnt κs a) (λ x s. x)
 places_place_of_one κs a x y s t p q = same p q
 
-pub places_address_of_one : (κs : _) (a : _) → One (places-address-of.Learnt κs a) (λ x s. x)
+pub places_address_of_one : (κs : _) (a : _) → One (places_address_of.Learnt κs a) (λ x s. x)
 places_address_of_one κs a x y s t p q = same p q
 
-pub sides_bad_list_one : (κs : _) (a : _) → One (sides-bad-list.Learnt κs a) (λ x s. x)
+pub sides_bad_list_one : (κs : _) (a : _) → One (sides_bad_list.Learnt κs a) (λ x s. x)
 sides_bad_list_one κs a x y s t p q = same p q
 
-pub sides_winner_one_part : (κs : _) (a : _) → One (sides-winner.Learnt κs a) (λ x s. x.now)
+pub sides_winner_one_part : (κs : _) (a : _) → One (sides_winner.Learnt κs a) (λ x s. x.now)
 sides_winner_one_part κs a x y s t p q = same p.0 q.0
 
-pub sides_winner_one_place : (κs : _) (a : _) → One (sides-winner.Learnt κs a) (λ x s. x.ptr)
+pub sides_winner_one_place : (κs : _) (a : _) → One (sides_winner.Learnt κs a) (λ x s. x.ref_ptr)
 sides_winner_one_place κs a x y s t p q = same p.1 q.1
 
-pub sides_winning_entry_one : (κs : _) (a : _) → One (sides-winning-entry.Learnt κs a) (λ x s. x)
+pub sides_winning_entry_one : (κs : _) (a : _) → One (sides_winning_entry.Learnt κs a) (λ x s. x)
 sides_winning_entry_one κs a x y s t p q = same p q
 
-pub sides_entry_in_one : (κs : _) (a : _) → One (sides-entry-in.Learnt κs a) (λ x s. x)
+pub sides_entry_in_one : (κs : _) (a : _) → One (sides_entry_in.Learnt κs a) (λ x s. x)
 sides_entry_in_one κs a x y s t p q = same p q
 
-pub sides_direction_between_one : (κs : _) (a : _) → One (sides-direction-between.Learnt κs a) (λ x s. x)
+pub sides_direction_between_one : (κs : _) (a : _) → One (sides_direction_between.Learnt κs a) (λ x s. x)
 sides_direction_between_one κs a x y s t p q = same p q
 
-pub packet_kinds_of_flags_one : (κs : _) (a : _) → One (packet-kinds-of-flags.Learnt κs a) (λ x s. x)
+pub packet_kinds_of_flags_one : (κs : _) (a : _) → One (packet_kinds_of_flags.Learnt κs a) (λ x s. x)
 packet_kinds_of_flags_one κs a x y s t p q = same p q
 
-pub packet_read_one : (κs : _) (a : _) → One (packet-read.Learnt κs a) (λ x s. x)
+pub packet_read_one : (κs : _) (a : _) → One (packet_read.Learnt κs a) (λ x s. x)
 packet_read_one κs a x y s t p q = same p q
 
-pub packet_header_port_one : (κs : _) (a : _) → One (packet-header-port.Learnt κs a) (λ x s. x)
+pub packet_header_port_one : (κs : _) (a : _) → One (packet_header_port.Learnt κs a) (λ x s. x)
 packet_header_port_one κs a x y s t p q = same p q
 
-pub capture_open_one : (κs : _) (a : _) → One (capture-open.Learnt κs a) (λ x s. x)
+pub capture_open_one : (κs : _) (a : _) → One (capture_open.Learnt κs a) (λ x s. x)
 capture_open_one κs a x y s t p q = same p q
 
-pub capture_next_one : (κs : _) (a : _) → One (capture-next.Learnt κs a) (λ x s. x)
+pub capture_next_one : (κs : _) (a : _) → One (capture_next.Learnt κs a) (λ x s. x)
 capture_next_one κs a x y s t p q = same p q
 
-pub capture_put_header_one : (κs : _) (a : _) → One (capture-put-header.Learnt κs a) (λ x s. put_of x s.0.now)
+pub capture_put_header_one : (κs : _) (a : _) → One (capture_put_header.Learnt κs a) (λ x s. put_of x s.0.now)
 capture_put_header_one κs a x y s t p q = same p q
 
-pub capture_put_record_one : (κs : _) (a : _) → One (capture-put-record.Learnt κs a) (λ x s. put_of x s.0.now)
+pub capture_put_record_one : (κs : _) (a : _) → One (capture_put_record.Learnt κs a) (λ x s. put_of x s.0.now)
 capture_put_record_one κs a x y s t p q = same p q
 
-pub records_marks_of_one : (κs : _) (a : _) → One (records-marks-of.Learnt κs a) (λ x s. x)
+pub records_marks_of_one : (κs : _) (a : _) → One (records_marks_of.Learnt κs a) (λ x s. x)
 records_marks_of_one κs a x y s t p q = same p q
 
-pub records_renewed_one : (κs : _) (a : _) → One (records-renewed.Learnt κs a) (λ x s. x)
+pub records_renewed_one : (κs : _) (a : _) → One (records_renewed.Learnt κs a) (λ x s. x)
 records_renewed_one κs a x y s t p q = same p q
 
-pub records_aged_one : (κs : _) (a : _) → One (records-aged.Learnt κs a) (λ x s. x)
+pub records_aged_one : (κs : _) (a : _) → One (records_aged.Learnt κs a) (λ x s. x)
 records_aged_one κs a x y s t p q = same p q
 
-pub records_age_all_one : (κs : _) (a : _) → One (records-age-all.Learnt κs a) (λ x s. s.0.now)
+pub records_age_all_one : (κs : _) (a : _) → One (records_age_all.Learnt κs a) (λ x s. s.0.now)
 records_age_all_one κs a x y s t p q = same p q
 
-pub counts_is_empty_one : (κs : _) (a : _) → One (counts-is-empty.Learnt κs a) (λ x s. x)
+pub counts_is_empty_one : (κs : _) (a : _) → One (counts_is_empty.Learnt κs a) (λ x s. x)
 counts_is_empty_one κs a x y s t p q = same p q
 
-pub counts_is_blocked_one : (κs : _) (a : _) → One (counts-is-blocked.Learnt κs a) (λ x s. x)
+pub counts_is_blocked_one : (κs : _) (a : _) → One (counts_is_blocked.Learnt κs a) (λ x s. x)
 counts_is_blocked_one κs a x y s t p q = same p q
 
-pub counts_lowered_one : (κs : _) (a : _) → One (counts-lowered.Learnt κs a) (λ x s. x)
+pub counts_lowered_one : (κs : _) (a : _) → One (counts_lowered.Learnt κs a) (λ x s. x)
 counts_lowered_one κs a x y s t p q = same p q
 
-pub counts_raised_one : (κs : _) (a : _) → One (counts-raised.Learnt κs a) (λ x s. x)
+pub counts_raised_one : (κs : _) (a : _) → One (counts_raised.Learnt κs a) (λ x s. x)
 counts_raised_one κs a x y s t p q = same p q
 
-pub counts_decayed_one : (κs : _) (a : _) → One (counts-decayed.Learnt κs a) (λ x s. x)
+pub counts_decayed_one : (κs : _) (a : _) → One (counts_decayed.Learnt κs a) (λ x s. x)
 counts_decayed_one κs a x y s t p q = same p q
 
-pub counts_decay_all_one : (κs : _) (a : _) → One (counts-decay-all.Learnt κs a) (λ x s. s.0.now)
+pub counts_decay_all_one : (κs : _) (a : _) → One (counts_decay_all.Learnt κs a) (λ x s. s.0.now)
 counts_decay_all_one κs a x y s t p q = same p q
 
-pub entries_count_of_one : (κs : _) (a : _) → One (entries-count-of.Learnt κs a) (λ x s. x)
+pub entries_count_of_one : (κs : _) (a : _) → One (entries_count_of.Learnt κs a) (λ x s. x)
 entries_count_of_one κs a x y s t p q = same p q
 
-pub entries_write_one : (κs : _) (a : _) → One (entries-write.Learnt κs a) (λ x s. written_of x s.0.now s.1.0.now)
+pub entries_write_one : (κs : _) (a : _) → One (entries_write.Learnt κs a) (λ x s. written_of x s.0.now s.1.0.now)
 entries_write_one κs a x y s t p q = same p q
 
-pub tables_clock_multiples_passed_one : (κs : _) (a : _) → One (tables-clock-multiples-passed.Learnt κs a) (λ x s. x)
+pub tables_clock_multiples_passed_one : (κs : _) (a : _) → One (tables_clock_multiples_passed.Learnt κs a) (λ x s. x)
 tables_clock_multiples_passed_one κs a x y s t p q = same p q
 
-pub tables_clock_pass_one : (κs : _) (a : _) → One (tables-clock-pass.Learnt κs a) (λ x s. timed_of s.0.now s.1.0.now s.1.1.0.now)
+pub tables_clock_pass_one : (κs : _) (a : _) → One (tables_clock_pass.Learnt κs a) (λ x s. timed_of s.0.now s.1.0.now s.1.1.0.now)
 tables_clock_pass_one κs a x y s t p q = same p q
 
-pub tables_sizes_bad_sizes_one : (κs : _) (a : _) → One (tables-sizes-bad-sizes.Learnt κs a) (λ x s. x)
+pub tables_sizes_bad_sizes_one : (κs : _) (a : _) → One (tables_sizes_bad_sizes.Learnt κs a) (λ x s. x)
 tables_sizes_bad_sizes_one κs a x y s t p q = same p q
 
-pub verdicts_number_one : (κs : _) (a : _) → One (verdicts-number.Learnt κs a) (λ x s. x)
+pub verdicts_number_one : (κs : _) (a : _) → One (verdicts_number.Learnt κs a) (λ x s. x)
 verdicts_number_one κs a x y s t p q = same p q
 
-pub verdicts_is_dropped_one : (κs : _) (a : _) → One (verdicts-is-dropped.Learnt κs a) (λ x s. x)
+pub verdicts_is_dropped_one : (κs : _) (a : _) → One (verdicts_is_dropped.Learnt κs a) (λ x s. x)
 verdicts_is_dropped_one κs a x y s t p q = same p q
 
-pub verdicts_verdict_of_one : (κs : _) (a : _) → One (verdicts-verdict-of.Learnt κs a) (λ x s. x)
+pub verdicts_verdict_of_one : (κs : _) (a : _) → One (verdicts_verdict_of.Learnt κs a) (λ x s. x)
 verdicts_verdict_of_one κs a x y s t p q = same p q
 
-pub verdicts_record_after_one : (κs : _) (a : _) → One (verdicts-record-after.Learnt κs a) (λ x s. x)
+pub verdicts_record_after_one : (κs : _) (a : _) → One (verdicts_record_after.Learnt κs a) (λ x s. x)
 verdicts_record_after_one κs a x y s t p q = same p q
 
-pub reasons_report_one : (κs : _) (a : _) → One (reasons-report.Learnt κs a) (λ x s. x)
+pub reasons_report_one : (κs : _) (a : _) → One (reasons_report.Learnt κs a) (λ x s. x)
 reasons_report_one κs a x y s t p q = same p q
 
-pub rulings_ruling_of_one : (κs : _) (a : _) → One (rulings-ruling-of.Learnt κs a) (λ x s. x)
+pub rulings_ruling_of_one : (κs : _) (a : _) → One (rulings_ruling_of.Learnt κs a) (λ x s. x)
 rulings_ruling_of_one κs a x y s t p q = same p q
 
-pub lines_put_byte_one : (κs : _) (a : _) → One (lines-put-byte.Learnt κs a) (λ x s. left_room (both s.0) x)
+pub lines_put_byte_one : (κs : _) (a : _) → One (lines_put_byte.Learnt κs a) (λ x s. left_room (both s.0) x)
 lines_put_byte_one κs a x y s t p q = same p q
 
-pub lines_put_text_one : (κs : _) (a : _) → One (lines-put-text.Learnt κs a) (λ x s. left_room (both s.0) x)
+pub lines_put_text_one : (κs : _) (a : _) → One (lines_put_text.Learnt κs a) (λ x s. left_room (both s.0) x)
 lines_put_text_one κs a x y s t p q = same p q
 
-pub lines_put_decimal_one : (κs : _) (a : _) → One (lines-put-decimal.Learnt κs a) (λ x s. left_room (both s.0) x)
+pub lines_put_decimal_one : (κs : _) (a : _) → One (lines_put_decimal.Learnt κs a) (λ x s. left_room (both s.0) x)
 lines_put_decimal_one κs a x y s t p q = same p q
 
-pub lines_put_signed_one : (κs : _) (a : _) → One (lines-put-signed.Learnt κs a) (λ x s. left_room (both s.0) x)
+pub lines_put_signed_one : (κs : _) (a : _) → One (lines_put_signed.Learnt κs a) (λ x s. left_room (both s.0) x)
 lines_put_signed_one κs a x y s t p q = same p q
 
-pub lines_put_dotted_one : (κs : _) (a : _) → One (lines-put-dotted.Learnt κs a) (λ x s. left_room (both s.0) x)
+pub lines_put_dotted_one : (κs : _) (a : _) → One (lines_put_dotted.Learnt κs a) (λ x s. left_room (both s.0) x)
 lines_put_dotted_one κs a x y s t p q = same p q
 
-pub lines_put_line_one : (κs : _) (a : _) → One (lines-put-line.Learnt κs a) (λ x s. left_room (both s.0) x)
+pub lines_put_line_one : (κs : _) (a : _) → One (lines_put_line.Learnt κs a) (λ x s. left_room (both s.0) x)
 lines_put_line_one κs a x y s t p q = same p q
 
-pub lines_put_last_line_one : (κs : _) (a : _) → One (lines-put-last-line.Learnt κs a) (λ x s. left_room (both s.0) x)
+pub lines_put_last_line_one : (κs : _) (a : _) → One (lines_put_last_line.Learnt κs a) (λ x s. left_room (both s.0) x)
 lines_put_last_line_one κs a x y s t p q = same p q
 
-pub arguments_record_number_one : (κs : _) (a : _) → One (arguments-record-number.Learnt κs a) (λ x s. x)
+pub arguments_record_number_one : (κs : _) (a : _) → One (arguments_record_number.Learnt κs a) (λ x s. x)
 arguments_record_number_one κs a x y s t p q = same p q
 
-pub explanations_put_asked_one : (κs : _) (a : _) → One (explanations-put-asked.Learnt κs a) (λ x s. left_room (both s.0) x)
+pub explanations_put_asked_one : (κs : _) (a : _) → One (explanations_put_asked.Learnt κs a) (λ x s. left_room (both s.0) x)
 explanations_put_asked_one κs a x y s t p q = same p q
 
-pub cold_fill_one : (κs : _) (a : _) → One (cold-fill.Learnt κs a) (λ x s. left_tables (both s.0) (both s.1.0) (both s.1.1.0))
+pub cold_fill_one : (κs : _) (a : _) → One (cold_fill.Learnt κs a) (λ x s. left_tables (both s.0) (both s.1.0) (both s.1.1.0))
 cold_fill_one κs a x y s t p q = same p q
 
-pub refusals_of_start_one : (κs : _) (a : _) → One (refusals-of-start.Learnt κs a) (λ x s. x)
+pub refusals_of_start_one : (κs : _) (a : _) → One (refusals_of_start.Learnt κs a) (λ x s. x)
 refusals_of_start_one κs a x y s t p q = same p q
 
-pub refusals_of_time_one : (κs : _) (a : _) → One (refusals-of-time.Learnt κs a) (λ x s. x)
+pub refusals_of_time_one : (κs : _) (a : _) → One (refusals_of_time.Learnt κs a) (λ x s. x)
 refusals_of_time_one κs a x y s t p q = same p q
 
-pub refusals_of_packet_one : (κs : _) (a : _) → One (refusals-of-packet.Learnt κs a) (λ x s. x)
+pub refusals_of_packet_one : (κs : _) (a : _) → One (refusals_of_packet.Learnt κs a) (λ x s. x)
 refusals_of_packet_one κs a x y s t p q = same p q
 
-pub gateway_cold_start_one : (κs : _) (a : _) → One (gateway-cold-start.Learnt κs a) (λ x s. left x.placing (both s.1.0) (both s.1.1.0) (both s.1.1.1.0) (both s.1.1.1.1.0) x.reply)
+pub gateway_cold_start_one : (κs : _) (a : _) → One (gateway_cold_start.Learnt κs a) (λ x s. left x.placing (both s.1.0) (both s.1.1.0) (both s.1.1.1.0) (both s.1.1.1.1.0) x.reply)
 gateway_cold_start_one κs a x y s t p q = same p q
 
-pub gateway_pass_one : (κs : _) (a : _) → One (gateway-pass.Learnt κs a) (λ x s. left a.0 (both s.1.0) (both s.1.1.0) (both s.1.1.1.0) (both s.1.1.1.1.0) x)
+pub gateway_pass_one : (κs : _) (a : _) → One (gateway_pass.Learnt κs a) (λ x s. left a.0 (both s.1.0) (both s.1.1.0) (both s.1.1.1.0) (both s.1.1.1.1.0) x)
 gateway_pass_one κs a x y s t p q = same p q
 
-pub gateway_judge_one : (κs : _) (a : _) → One (gateway-judge.Learnt κs a) (λ x s. left a.0 (both s.1.1.1.0) (both s.1.1.1.1.0) (both s.1.1.1.1.1.0) (both s.1.1.1.1.1.1.0) x)
+pub gateway_judge_one : (κs : _) (a : _) → One (gateway_judge.Learnt κs a) (λ x s. left a.0 (both s.1.1.1.0) (both s.1.1.1.1.0) (both s.1.1.1.1.1.0) (both s.1.1.1.1.1.1.0) x)
 gateway_judge_one κs a x y s t p q = same p q
 
-pub gateway_why_one : (κs : _) (a : _) → One (gateway-why.Learnt κs a) (λ x s. x)
+pub gateway_why_one : (κs : _) (a : _) → One (gateway_why.Learnt κs a) (λ x s. x)
 gateway_why_one κs a x y s t p q = same p q
 
-pub tally_tally_empty_one : (κs : _) (a : _) → One (tally-tally-empty.Learnt κs a) (λ x s. x)
+pub tally_tally_empty_one : (κs : _) (a : _) → One (tally_tally_empty.Learnt κs a) (λ x s. x)
 tally_tally_empty_one κs a x y s t p q = same p q
 
-pub tally_tally_with_verdict_one : (κs : _) (a : _) → One (tally-tally-with-verdict.Learnt κs a) (λ x s. x)
+pub tally_tally_with_verdict_one : (κs : _) (a : _) → One (tally_tally_with_verdict.Learnt κs a) (λ x s. x)
 tally_tally_with_verdict_one κs a x y s t p q = same p q
 
-pub tally_tally_with_one : (κs : _) (a : _) → One (tally-tally-with.Learnt κs a) (λ x s. x)
+pub tally_tally_with_one : (κs : _) (a : _) → One (tally_tally_with.Learnt κs a) (λ x s. x)
 tally_tally_with_one κs a x y s t p q = same p q
 
-pub frames_what_is_in_one : (κs : _) (a : _) → One (frames-what-is-in.Learnt κs a) (λ x s. x)
+pub frames_what_is_in_one : (κs : _) (a : _) → One (frames_what_is_in.Learnt κs a) (λ x s. x)
 frames_what_is_in_one κs a x y s t p q = same p q
 
-pub frames_judge_one : (κs : _) (a : _) → One (frames-judge.Learnt κs a) (λ x s. left a.0 (both s.1.1.1.0) (both s.1.1.1.1.0) (both s.1.1.1.1.1.0) (both s.1.1.1.1.1.1.0) x)
+pub frames_judge_one : (κs : _) (a : _) → One (frames_judge.Learnt κs a) (λ x s. left a.0 (both s.1.1.1.0) (both s.1.1.1.1.0) (both s.1.1.1.1.1.0) (both s.1.1.1.1.1.1.0) x)
 frames_judge_one κs a x y s t p q = same p q
 
-pub frames_why_one : (κs : _) (a : _) → One (frames-why.Learnt κs a) (λ x s. x)
+pub frames_why_one : (κs : _) (a : _) → One (frames_why.Learnt κs a) (λ x s. x)
 frames_why_one κs a x y s t p q = same p q
 
-pub replay_next_one : (κs : _) (a : _) → One (replay-next.Learnt κs a) (λ x s. left program_placing (both s.1.1.1.1.0) (both s.1.1.1.1.1.0) (both s.1.1.1.1.1.1.0) (both s.1.1.1.1.1.1.1.0) x)
+pub replay_next_one : (κs : _) (a : _) → One (replay_next.Learnt κs a) (λ x s. left program_placing (both s.1.1.1.1.0) (both s.1.1.1.1.1.0) (both s.1.1.1.1.1.1.0) (both s.1.1.1.1.1.1.1.0) x)
 replay_next_one κs a x y s t p q = same p q
 
-pub outputs_asks_why_one : (κs : _) (a : _) → One (outputs-asks-why.Learnt κs a) (λ x s. x)
+pub outputs_asks_why_one : (κs : _) (a : _) → One (outputs_asks_why.Learnt κs a) (λ x s. x)
 outputs_asks_why_one κs a x y s t p q = same p q
 
-pub outputs_put_told_one : (κs : _) (a : _) → One (outputs-put-told.Learnt κs a) (λ x s. left_room (both s.1.0) x)
+pub outputs_put_told_one : (κs : _) (a : _) → One (outputs_put_told.Learnt κs a) (λ x s. left_room (both s.1.0) x)
 outputs_put_told_one κs a x y s t p q = same p q
 
-pub outputs_put_opening_one : (κs : _) (a : _) → One (outputs-put-opening.Learnt κs a) (λ x s. left_room (both s.1.0) x)
+pub outputs_put_opening_one : (κs : _) (a : _) → One (outputs_put_opening.Learnt κs a) (λ x s. left_room (both s.1.0) x)
 outputs_put_opening_one κs a x y s t p q = same p q
 
-pub endings_one_more_one : (κs : _) (a : _) → One (endings-one-more.Learnt κs a) (λ x s. x)
+pub endings_one_more_one : (κs : _) (a : _) → One (endings_one_more.Learnt κs a) (λ x s. x)
 endings_one_more_one κs a x y s t p q = same p q
 
-pub endings_put_ending_one : (κs : _) (a : _) → One (endings-put-ending.Learnt κs a) (λ x s. left_room (both s.0) x)
+pub endings_put_ending_one : (κs : _) (a : _) → One (endings_put_ending.Learnt κs a) (λ x s. left_room (both s.0) x)
 endings_put_ending_one κs a x y s t p q = same p q
 
-pub endings_put_refused_header_one : (κs : _) (a : _) → One (endings-put-refused-header.Learnt κs a) (λ x s. left_room (both s.0) x)
+pub endings_put_refused_header_one : (κs : _) (a : _) → One (endings_put_refused_header.Learnt κs a) (λ x s. left_room (both s.0) x)
 endings_put_refused_header_one κs a x y s t p q = same p q
 
-pub feeding_feed_one : (κs : _) (a : _) → One (feeding-feed.Learnt κs a) (λ x s. replayed_of x s.1.1.1.0.now (left_state program_placing (both s.1.1.1.1.0) (both s.1.1.1.1.1.0) (both s.1.1.1.1.1.1.0) (both s.1.1.1.1.1.1.1.0)))
+pub feeding_feed_one : (κs : _) (a : _) → One (feeding_feed.Learnt κs a) (λ x s. replayed_of x s.1.1.1.0.now (left_state program_placing (both s.1.1.1.1.0) (both s.1.1.1.1.1.0) (both s.1.1.1.1.1.1.0) (both s.1.1.1.1.1.1.1.0)))
 feeding_feed_one κs a x y s t p q = same p q
 
-pub streams_shift_one : (κs : _) (a : _) → One (streams-shift.Learnt κs a) (λ x s. held_of x s.0.now)
+pub streams_shift_one : (κs : _) (a : _) → One (streams_shift.Learnt κs a) (λ x s. held_of x s.0.now)
 streams_shift_one κs a x y s t p q = same p q
 
-pub streams_within_one : (κs : _) (a : _) → One (streams-within.Learnt κs a) (λ x s. x)
+pub streams_within_one : (κs : _) (a : _) → One (streams_within.Learnt κs a) (λ x s. x)
 streams_within_one κs a x y s t p q = same p.1 q.1
 
-pub turns_first_one : (κs : _) (a : _) → One (turns-first.Learnt κs a) (λ x s. x)
+pub turns_first_one : (κs : _) (a : _) → One (turns_first.Learnt κs a) (λ x s. x)
 turns_first_one κs a x y s t p q = same p q
 
-pub turns_is_early_one : (κs : _) (a : _) → One (turns-is-early.Learnt κs a) (λ x s. x)
+pub turns_is_early_one : (κs : _) (a : _) → One (turns_is_early.Learnt κs a) (λ x s. x)
 turns_is_early_one κs a x y s t p q = same p q
 
-pub turns_has_failed_one : (κs : _) (a : _) → One (turns-has-failed.Learnt κs a) (λ x s. x)
+pub turns_has_failed_one : (κs : _) (a : _) → One (turns_has_failed.Learnt κs a) (λ x s. x)
 turns_has_failed_one κs a x y s t p q = same p q
 
-pub turns_refilled_one : (κs : _) (a : _) → One (turns-refilled.Learnt κs a) (λ x s. x)
+pub turns_refilled_one : (κs : _) (a : _) → One (turns_refilled.Learnt κs a) (λ x s. x)
 turns_refilled_one κs a x y s t p q = same p q
 
-pub turns_written_one : (κs : _) (a : _) → One (turns-written.Learnt κs a) (λ x s. x)
+pub turns_written_one : (κs : _) (a : _) → One (turns_written.Learnt κs a) (λ x s. x)
 turns_written_one κs a x y s t p q = same p q
 
-pub turns_is_sound_one : (κs : _) (a : _) → One (turns-is-sound.Learnt κs a) (λ x s. x)
+pub turns_is_sound_one : (κs : _) (a : _) → One (turns_is_sound.Learnt κs a) (λ x s. x)
 turns_is_sound_one κs a x y s t p q = same p q
 
-pub turns_goes_on_one : (κs : _) (a : _) → One (turns-goes-on.Learnt κs a) (λ x s. x)
+pub turns_goes_on_one : (κs : _) (a : _) → One (turns_goes_on.Learnt κs a) (λ x s. x)
 turns_goes_on_one κs a x y s t p q = same p q
 
-pub turns_lacks_header_one : (κs : _) (a : _) → One (turns-lacks-header.Learnt κs a) (λ x s. x)
+pub turns_lacks_header_one : (κs : _) (a : _) → One (turns_lacks_header.Learnt κs a) (λ x s. x)
 turns_lacks_header_one κs a x y s t p q = same p q
 
-pub turns_put_end_one : (κs : _) (a : _) → One (turns-put-end.Learnt κs a) (λ x s. left_room (both s.0) x)
+pub turns_put_end_one : (κs : _) (a : _) → One (turns_put_end.Learnt κs a) (λ x s. left_room (both s.0) x)
 turns_put_end_one κs a x y s t p q = same p q
 
-pub turns_ending_goes_to_one : (κs : _) (a : _) → One (turns-ending-goes-to.Learnt κs a) (λ x s. x)
+pub turns_ending_goes_to_one : (κs : _) (a : _) → One (turns_ending_goes_to.Learnt κs a) (λ x s. x)
 turns_ending_goes_to_one κs a x y s t p q = same p q
 
-pub turns_beginning_goes_to_one : (κs : _) (a : _) → One (turns-beginning-goes-to.Learnt κs a) (λ x s. x)
+pub turns_beginning_goes_to_one : (κs : _) (a : _) → One (turns_beginning_goes_to.Learnt κs a) (λ x s. x)
 turns_beginning_goes_to_one κs a x y s t p q = same p q
 
-pub turns_put_missing_one : (κs : _) (a : _) → One (turns-put-missing.Learnt κs a) (λ x s. left_room (both s.1.0) x)
+pub turns_put_missing_one : (κs : _) (a : _) → One (turns_put_missing.Learnt κs a) (λ x s. left_room (both s.1.0) x)
 turns_put_missing_one κs a x y s t p q = same p q
 
-pub turns_put_lost_one : (κs : _) (a : _) → One (turns-put-lost.Learnt κs a) (λ x s. left_room (both s.1.0) x)
+pub turns_put_lost_one : (κs : _) (a : _) → One (turns_put_lost.Learnt κs a) (λ x s. left_room (both s.1.0) x)
 turns_put_lost_one κs a x y s t p q = same p q
 
-pub turns_begin_one : (κs : _) (a : _) → One (turns-begin.Learnt κs a) (λ x s. beginning_of x s.1.1.0.now)
+pub turns_begin_one : (κs : _) (a : _) → One (turns_begin.Learnt κs a) (λ x s. beginning_of x s.1.1.0.now)
 turns_begin_one κs a x y s t p q = same p q
 
-pub turns_take_one : (κs : _) (a : _) → One (turns-take.Learnt κs a) (λ x s. turn_of x s.1.0.now s.1.1.1.0.now (left_state program_placing (both s.1.1.1.1.0) (both s.1.1.1.1.1.0) (both s.1.1.1.1.1.1.0) (both s.1.1.1.1.1.1.1.0)))
+pub turns_take_one : (κs : _) (a : _) → One (turns_take.Learnt κs a) (λ x s. turn_of x s.1.0.now s.1.1.1.0.now (left_state program_placing (both s.1.1.1.1.0) (both s.1.1.1.1.1.0) (both s.1.1.1.1.1.1.0) (both s.1.1.1.1.1.1.1.0)))
 turns_take_one κs a x y s t p q = same p q
 
-pub embed_spritgrommet_factory_one : (κs : _) (a : _) → One (embed-spritgrommet-factory.Learnt κs a) (λ x s. x)
+pub embed_spritgrommet_factory_one : (κs : _) (a : _) → One (embed_spritgrommet_factory.Learnt κs a) (λ x s. x)
 embed_spritgrommet_factory_one κs a x y s t p q = same p q
 
-pub embed_spritgrommet_cold_start_one : (κs : _) (a : _) → One (embed-spritgrommet-cold-start.Learnt κs a) (λ x s. left x.placing (both s.1.0) (both s.1.1.0) (both s.1.1.1.0) (both s.1.1.1.1.0) x.refusal)
+pub embed_spritgrommet_cold_start_one : (κs : _) (a : _) → One (embed_spritgrommet_cold_start.Learnt κs a) (λ x s. left x.placing (both s.1.0) (both s.1.1.0) (both s.1.1.1.0) (both s.1.1.1.1.0) x.refusal)
 embed_spritgrommet_cold_start_one κs a x y s t p q = same p q
 
-pub embed_spritgrommet_pass_one : (κs : _) (a : _) → One (embed-spritgrommet-pass.Learnt κs a) (λ x s. left a.0 (both s.1.0) (both s.1.1.0) (both s.1.1.1.0) (both s.1.1.1.1.0) x)
+pub embed_spritgrommet_pass_one : (κs : _) (a : _) → One (embed_spritgrommet_pass.Learnt κs a) (λ x s. left a.0 (both s.1.0) (both s.1.1.0) (both s.1.1.1.0) (both s.1.1.1.1.0) x)
 embed_spritgrommet_pass_one κs a x y s t p q = same p q
 
-pub embed_spritgrommet_judge_one : (κs : _) (a : _) → One (embed-spritgrommet-judge.Learnt κs a) (λ x s. left a.0 (both s.1.1.1.0) (both s.1.1.1.1.0) (both s.1.1.1.1.1.0) (both s.1.1.1.1.1.1.0) x)
+pub embed_spritgrommet_judge_one : (κs : _) (a : _) → One (embed_spritgrommet_judge.Learnt κs a) (λ x s. left a.0 (both s.1.1.1.0) (both s.1.1.1.1.0) (both s.1.1.1.1.1.0) (both s.1.1.1.1.1.1.0) x)
 embed_spritgrommet_judge_one κs a x y s t p q = same p q
 
-pub embed_spritgrommet_judge_frame_one : (κs : _) (a : _) → One (embed-spritgrommet-judge-frame.Learnt κs a) (λ x s. left a.0 (both s.1.1.1.0) (both s.1.1.1.1.0) (both s.1.1.1.1.1.0) (both s.1.1.1.1.1.1.0) x)
+pub embed_spritgrommet_judge_frame_one : (κs : _) (a : _) → One (embed_spritgrommet_judge_frame.Learnt κs a) (λ x s. left a.0 (both s.1.1.1.0) (both s.1.1.1.1.0) (both s.1.1.1.1.1.0) (both s.1.1.1.1.1.1.0) x)
 embed_spritgrommet_judge_frame_one κs a x y s t p q = same p q
 
-pub embed_spritgrommet_winner_one : (κs : _) (a : _) → One (embed-spritgrommet-winner.Learnt κs a) (λ x s. x)
+pub embed_spritgrommet_winner_one : (κs : _) (a : _) → One (embed_spritgrommet_winner.Learnt κs a) (λ x s. x)
 embed_spritgrommet_winner_one κs a x y s t p q = same p q
 
-pub embed_spritgrommet_encrypt_one : (κs : _) (a : _) → One (embed-spritgrommet-encrypt.Learnt κs a) (λ x s. x)
+pub embed_spritgrommet_encrypt_one : (κs : _) (a : _) → One (embed_spritgrommet_encrypt.Learnt κs a) (λ x s. x)
 embed_spritgrommet_encrypt_one κs a x y s t p q = same p q
 
-pub embed_spritgrommet_decrypt_one : (κs : _) (a : _) → One (embed-spritgrommet-decrypt.Learnt κs a) (λ x s. x)
+pub embed_spritgrommet_decrypt_one : (κs : _) (a : _) → One (embed_spritgrommet_decrypt.Learnt κs a) (λ x s. x)
 embed_spritgrommet_decrypt_one κs a x y s t p q = same p q
 
-pub embed_spritgrommet_open_one : (κs : _) (a : _) → One (embed-spritgrommet-open.Learnt κs a) (λ x s. x)
+pub embed_spritgrommet_tally_one : (κs : _) (a : _) → One (embed_spritgrommet_tally.Learnt κs a) (λ x s. s.0.now)
+embed_spritgrommet_tally_one κs a x y s t p q = same p q
+
+pub embed_spritgrommet_open_one : (κs : _) (a : _) → One (embed_spritgrommet_open.Learnt κs a) (λ x s. x)
 embed_spritgrommet_open_one κs a x y s t p q = same p q
 
-pub embed_spritgrommet_next_one : (κs : _) (a : _) → One (embed-spritgrommet-next.Learnt κs a) (λ x s. x)
+pub embed_spritgrommet_next_one : (κs : _) (a : _) → One (embed_spritgrommet_next.Learnt κs a) (λ x s. x)
 embed_spritgrommet_next_one κs a x y s t p q = same p q
 
-pub embed_spritgrommet_put_header_one : (κs : _) (a : _) → One (embed-spritgrommet-put-header.Learnt κs a) (λ x s. plain_put_of x s.0.now)
+pub embed_spritgrommet_put_header_one : (κs : _) (a : _) → One (embed_spritgrommet_put_header.Learnt κs a) (λ x s. plain_put_of x s.0.now)
 embed_spritgrommet_put_header_one κs a x y s t p q = same p q
 
-pub embed_spritgrommet_put_record_one : (κs : _) (a : _) → One (embed-spritgrommet-put-record.Learnt κs a) (λ x s. plain_put_of x s.0.now)
+pub embed_spritgrommet_put_record_one : (κs : _) (a : _) → One (embed_spritgrommet_put_record.Learnt κs a) (λ x s. plain_put_of x s.0.now)
 embed_spritgrommet_put_record_one κs a x y s t p q = same p q
 
-pub embed_plain_of_reply_one : (κs : _) (a : _) → One (embed-plain-of-reply.Learnt κs a) (λ x s. x)
+pub embed_plain_of_reply_one : (κs : _) (a : _) → One (embed_plain_of_reply.Learnt κs a) (λ x s. x)
 embed_plain_of_reply_one κs a x y s t p q = same p q
 
-pub embed_plain_of_started_one : (κs : _) (a : _) → One (embed-plain-of-started.Learnt κs a) (λ x s. x)
+pub embed_plain_of_started_one : (κs : _) (a : _) → One (embed_plain_of_started.Learnt κs a) (λ x s. x)
 embed_plain_of_started_one κs a x y s t p q = same p q
 
-pub embed_plain_of_answer_one : (κs : _) (a : _) → One (embed-plain-of-answer.Learnt κs a) (λ x s. x)
+pub embed_plain_of_answer_one : (κs : _) (a : _) → One (embed_plain_of_answer.Learnt κs a) (λ x s. x)
 embed_plain_of_answer_one κs a x y s t p q = same p q
 
-pub embed_plain_tally_with_one : (κs : _) (a : _) → One (embed-plain-tally-with.Learnt κs a) (λ x s. x)
+pub embed_plain_tally_with_one : (κs : _) (a : _) → One (embed_plain_tally_with.Learnt κs a) (λ x s. x)
 embed_plain_tally_with_one κs a x y s t p q = same p q
 
-pub embed_plain_of_written_one : (κs : _) (a : _) → One (embed-plain-of-written.Learnt κs a) (λ x s. x)
+pub embed_plain_of_written_one : (κs : _) (a : _) → One (embed_plain_of_written.Learnt κs a) (λ x s. x)
 embed_plain_of_written_one κs a x y s t p q = same p q
 
-pub embed_plain_of_winning_one : (κs : _) (a : _) → One (embed-plain-of-winning.Learnt κs a) (λ x s. x)
+pub embed_plain_of_winning_one : (κs : _) (a : _) → One (embed_plain_of_winning.Learnt κs a) (λ x s. x)
 embed_plain_of_winning_one κs a x y s t p q = same p q
 
-pub embed_plain_of_opened_one : (κs : _) (a : _) → One (embed-plain-of-opened.Learnt κs a) (λ x s. x)
+pub embed_plain_of_opened_one : (κs : _) (a : _) → One (embed_plain_of_opened.Learnt κs a) (λ x s. x)
 embed_plain_of_opened_one κs a x y s t p q = same p q
 
-pub embed_plain_of_reading_one : (κs : _) (a : _) → One (embed-plain-of-reading.Learnt κs a) (λ x s. x)
+pub embed_plain_of_reading_one : (κs : _) (a : _) → One (embed_plain_of_reading.Learnt κs a) (λ x s. x)
 embed_plain_of_reading_one κs a x y s t p q = same p q
 
-pub embed_why_spritgrommet_why_one : (κs : _) (a : _) → One (embed-why-spritgrommet-why.Learnt κs a) (λ x s. x)
+pub embed_why_spritgrommet_why_one : (κs : _) (a : _) → One (embed_why_spritgrommet_why.Learnt κs a) (λ x s. x)
 embed_why_spritgrommet_why_one κs a x y s t p q = same p q
 
-pub embed_why_spritgrommet_why_frame_one : (κs : _) (a : _) → One (embed-why-spritgrommet-why-frame.Learnt κs a) (λ x s. x)
+pub embed_why_spritgrommet_why_frame_one : (κs : _) (a : _) → One (embed_why_spritgrommet_why_frame.Learnt κs a) (λ x s. x)
 embed_why_spritgrommet_why_frame_one κs a x y s t p q = same p q
 
-pub embed_why_plain_of_explanation_one : (κs : _) (a : _) → One (embed-why-plain-of-explanation.Learnt κs a) (λ x s. x)
+pub embed_why_plain_of_explanation_one : (κs : _) (a : _) → One (embed_why_plain_of_explanation.Learnt κs a) (λ x s. x)
 embed_why_plain_of_explanation_one κs a x y s t p q = same p q
-
--- embed::spritgrommet_tally is left out: its proof is a walk by hand, for which there is no `Learnt`; its contract is the equation of `plain::tally_with`
 
 -- programs::replay is left out: it answers nothing, is lent nothing, and what it reads and writes no contract can say
 

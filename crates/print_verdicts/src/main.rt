@@ -3,6 +3,6 @@
 
 use outputs::Output;
 
-fn main() {
-    programs::replay(Output::Lines);
+fn main(rt: HostRuntime) {
+    programs::replay(&rt, Output::Lines);
 }

@@ -2,36 +2,51 @@
 // is its argument.
 #![tactic(auto)]
 
-use libc::STDERR_FILENO;
 use outputs::Output;
+use std::env::FillError;
+use std::io::Write;
+use std::rt::Env;
+
+// Says a sentence on standard error, which is the end of it where it cannot be written.
+fn tell(rt: &HostRuntime, sentence: &[u8]) {
+    let _ = rt.stderr().write_all(sentence);
+}
+
+// Whether the program was given the argument of this number. One that is too long for the buffer was given too.
+fn is_given(rt: &HostRuntime, number: usize) -> bool {
+    let mut argument = [0u8; 32];
+    match rt.arg(number, &mut argument) {
+        Err(FillError::NotPresent) => false,
+        _ => true,
+    }
+}
 
 // Says it of the record whose number is the first argument. One that is too long for the buffer is left empty, and so is no number.
-fn explain_one() {
+fn explain_one(rt: &HostRuntime) {
     let mut argument = [0u8; 32];
-    let length = os::arg(1, &mut argument);
+    let length = rt.arg(1, &mut argument).unwrap_or(0);
     let wanted = arguments::record_number(&argument[..length]);
     if wanted == 0 {
-        io::write_all(
-            STDERR_FILENO,
+        tell(
+            rt,
             b"why: the argument is no record number: give a number from 1 on, or none for every dropped record\n",
         );
         return;
     }
-    programs::replay(Output::Reasons(wanted));
+    programs::replay(rt, Output::Reasons(wanted));
 }
 
-fn main() {
-    let count = os::arg_count();
-    if 2 < count {
-        io::write_all(
-            STDERR_FILENO,
+fn main(rt: HostRuntime) {
+    if is_given(&rt, 2) {
+        tell(
+            &rt,
             b"why: more than one argument: give one record number, or none for every dropped record\n",
         );
         return;
     }
-    if count == 2 {
-        explain_one();
+    if is_given(&rt, 1) {
+        explain_one(&rt);
         return;
     }
-    programs::replay(Output::Reasons(0));
+    programs::replay(&rt, Output::Reasons(0));
 }

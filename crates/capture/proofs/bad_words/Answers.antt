@@ -1,6 +1,5 @@
 -- `capture::bad_words` meets its contract: the bytes of all four words are there.
 -- Assumes nothing.
-use borrow.Author.Rules.{rules}
 use mathlib.Core.Path.{◌∙◌}
 use native.Mathlib.Omega.{arith}
 use Rattle.words.proofs.Words.{there}

@@ -7,7 +7,6 @@ use native.Mathlib.Omega.{arith}
 use Rattle.words.specs.Words.{two_bytes, four_bytes, stored}
 use Rattle.words.proofs.Words.{stored_in_turn}
 use Rattle.capture.specs.Format.{magic}
-use borrow.Author.Rules.{rules}
 use Rattle.capture.proofs.fill_header.Goals as goal
 
 pub returns : goal.returns

@@ -10,7 +10,6 @@ use Rattle.words.specs.Words.{four_bytes, stored}
 use Rattle.words.specs.Layouts.{bytes_for}
 use Rattle.words.proofs.Words.{stored_in_turn}
 use Rattle.capture.specs.Format.{record_words, record_numbers, content_of}
-use borrow.Author.Rules.{rules}
 use Rattle.capture.proofs.fill_record.Goals as goal
 
 pub returns : goal.returns

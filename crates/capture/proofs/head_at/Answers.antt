@@ -1,6 +1,5 @@
 -- `capture::head_at` meets its contract: the bytes of all four words are there.
 -- Assumes nothing.
-use borrow.Author.Rules.{rules}
 use mathlib.Core.Path.{◌∙◌}
 use native.Mathlib.Nat.{add-zero}
 use native.Mathlib.Omega.{arith}

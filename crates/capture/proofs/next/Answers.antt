@@ -1,6 +1,5 @@
 -- `capture::next` meets its contract: its tests are those of the definition, in their order.
 -- Assumes nothing.
-use borrow.Author.Rules.{rules}
 use mathlib.Core.Path.{sym, ◌∙◌, ap}
 use native.Mathlib.Omega.{arith}
 use Rattle.capture.proofs.Readings.{at_the_end, head_cut, too_long, body_cut, is_whole}

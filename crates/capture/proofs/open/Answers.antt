@@ -1,6 +1,5 @@
 -- `capture::open` meets its contract: a short header, a wrong one, and one that is neither.
 -- Assumes nothing.
-use borrow.Author.Rules.{rules}
 use mathlib.Core.Path.{sym, ◌∙◌}
 use native.Mathlib.Omega.{arith}
 use Rattle.capture.proofs.Readings.{short, wrong, opened}

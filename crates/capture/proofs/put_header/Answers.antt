@@ -5,11 +5,9 @@ use mathlib.Core.Path.{◌≡◌, refl, sym, ◌∙◌}
 use Prim.Native.Nat.{ℕ, ◌+◌, ◌≤◌}
 use native.Mathlib.Omega.{arith}
 use lib.Dec.{leb}
-use lib.ListN.{length}
 use borrow.Author.Tests.{leb-true, leb-false}
 use Rattle.capture.proofs.Writings.{no_room, put_in_part, the_header}
 use Rattle.capture.specs.Format.{header_bytes}
-use borrow.Author.Rules.{rules}
 use Rattle.capture.proofs.put_header.Goals as goal
 
 -- the header fits behind its place

@@ -9,7 +9,6 @@ use lib.ListN.{length}
 use borrow.Author.Tests.{leb-true, leb-false}
 use Rattle.capture.proofs.Writings.{no_room, put_in_part, too_many, few_enough}
 use Rattle.capture.specs.Format.{Content, content_of, record_bytes}
-use borrow.Author.Rules.{rules}
 use Rattle.capture.proofs.put_record.Goals as goal
 
 pub returns-then-source-gt-MOST_CAPTURED : goal.returns-then-source-gt-MOST_CAPTURED

@@ -1,10 +1,6 @@
 -- `cold::clear_records` meets its contract: one fill by 0.
 -- Assumes nothing.
-use Prim.Native.Nat.{◌-◌}
-use native.Mathlib.Omega.{arith}
-use lib.ListN.{length}
-use borrow.Author.Rules.{rules}
-use Rattle.laws.proofs.Sweep.{Filling, fill_start, fill_turn, fill_end}
+use Rattle.laws.proofs.Sweep.{fill_start, fill_turn, fill_end}
 use Rattle.cold.proofs.clear_records.Goals as goal
 
 pub loop-slot-init : goal.loop-slot-init

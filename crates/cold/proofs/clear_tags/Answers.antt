@@ -1,10 +1,6 @@
 -- `cold::clear_tags` meets its contract: one fill by 0.
 -- Assumes nothing.
-use Prim.Native.Nat.{◌-◌}
-use native.Mathlib.Omega.{arith}
-use lib.ListN.{length}
-use borrow.Author.Rules.{rules}
-use Rattle.laws.proofs.Sweep.{Filling, fill_start, fill_turn, fill_end}
+use Rattle.laws.proofs.Sweep.{fill_start, fill_turn, fill_end}
 use Rattle.cold.proofs.clear_tags.Goals as goal
 
 pub loop-i-init : goal.loop-i-init

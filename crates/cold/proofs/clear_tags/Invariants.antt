@@ -1,9 +1,7 @@
 -- `cold::clear_tags` meets its contract: one fill by 0.
 use Prim.Native.Nat.{◌-◌}
-use native.Mathlib.Omega.{arith}
 use lib.ListN.{length}
-use borrow.Author.Rules.{rules}
-use Rattle.laws.proofs.Sweep.{Filling, fill_start, fill_turn, fill_end}
+use Rattle.laws.proofs.Sweep.{Filling}
 use Rattle.cold.proofs.clear_tags.Given as goal
 
 abbrev pub invariant-loop-i : goal.invariant-loop-i

@@ -1,11 +1,6 @@
 -- `cold::empty_counts` meets its contract: one fill by -32,768.
 -- Assumes nothing.
-use Prim.Native.Nat.{◌-◌}
-use native.Mathlib.Omega.{arith}
-use lib.ListN.{length}
-use borrow.Author.Rules.{rules}
-use Rattle.laws.specs.Signed.{minus}
-use Rattle.laws.proofs.Sweep.{Filling, fill_start, fill_turn, fill_end}
+use Rattle.laws.proofs.Sweep.{fill_start, fill_turn, fill_end}
 use Rattle.cold.proofs.empty_counts.Goals as goal
 
 pub loop-i-init : goal.loop-i-init

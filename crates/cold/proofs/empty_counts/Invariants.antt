@@ -1,10 +1,8 @@
 -- `cold::empty_counts` meets its contract: one fill by -32,768.
 use Prim.Native.Nat.{◌-◌}
-use native.Mathlib.Omega.{arith}
 use lib.ListN.{length}
-use borrow.Author.Rules.{rules}
 use Rattle.laws.specs.Signed.{minus}
-use Rattle.laws.proofs.Sweep.{Filling, fill_start, fill_turn, fill_end}
+use Rattle.laws.proofs.Sweep.{Filling}
 use Rattle.cold.proofs.empty_counts.Given as goal
 
 abbrev pub invariant-loop-i : goal.invariant-loop-i

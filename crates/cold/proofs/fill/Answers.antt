@@ -1,6 +1,5 @@
 -- `cold::fill` meets its contract: each table is filled, one after the other.
 -- Assumes nothing.
-use borrow.Author.Rules.{rules}
 use Rattle.tables.specs.Tables.{tables_of}
 use Rattle.cold.specs.Cold.{cold_tables}
 use Rattle.cold.proofs.fill.Goals as goal

@@ -4,7 +4,6 @@ use mathlib.Core.Path.{ap}
 use Rattle.rulings.specs.declared.answers.Answer.{Answer}
 use Rattle.gateway.specs.Calls.{After}
 use Rattle.embed.specs.Plain.{plainly, plain_answer}
-use borrow.Author.Rules.{rules}
 use Rattle.embed.proofs.spritgrommet_judge.Goals as goal
 
 pub returns : goal.returns

@@ -5,7 +5,6 @@ use Rattle.gateway.specs.Calls.{state_of}
 use Rattle.rulings.specs.Rules.{rules_of}
 use Rattle.frames.proofs.Cases.{has_header, by_inside_lem, all_from}
 use Rattle.embed.specs.Plain.{plainly, plain_answer}
-use borrow.Author.Rules.{rules}
 use Rattle.embed.proofs.spritgrommet_judge_frame.Goals as goal
 
 pub slice_bounds-carried-count : goal.slice_bounds-carried-count

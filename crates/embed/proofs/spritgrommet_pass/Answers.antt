@@ -4,7 +4,6 @@ use mathlib.Core.Path.{ap}
 use Rattle.gateway.specs.declared.Reply.{Reply}
 use Rattle.gateway.specs.Calls.{After, refusal_in}
 use Rattle.embed.specs.Plain.{plainly}
-use borrow.Author.Rules.{rules}
 use Rattle.embed.proofs.spritgrommet_pass.Goals as goal
 
 pub returns : goal.returns

@@ -3,7 +3,6 @@
 use mathlib.Core.Path.{ap, ◌∙◌}
 use Rattle.embed.specs.declared.plain.PlainWritten.{PlainWritten}
 use Rattle.embed.specs.Plain.{plain_put_of, plain_put}
-use borrow.Author.Rules.{rules}
 use Rattle.embed.proofs.spritgrommet_put_record.Goals as goal
 
 pub returns : goal.returns

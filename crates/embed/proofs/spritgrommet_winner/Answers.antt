@@ -1,6 +1,5 @@
 -- `embed::spritgrommet_winner` meets its contract: the call's own, with its answer in plain numbers.
 -- Assumes nothing.
-use borrow.Author.Rules.{rules}
 use Rattle.embed.proofs.spritgrommet_winner.Goals as goal
 
 pub returns : goal.returns

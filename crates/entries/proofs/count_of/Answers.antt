@@ -1,12 +1,9 @@
 -- `entries::count_of` meets its contract: the count in the line that is lent.
 -- Assumes nothing.
 use mathlib.Core.Path.{sym, ◌∙◌}
-use Prim.Native.Nat.{◌+◌, ◌*◌, ◌≤◌}
 use native.Mathlib.Omega.{arith}
-use lib.ListN.{length}
 use mir.Syntax.{w16}
 use mir.ValLaws.{to_z-of_z}
-use borrow.Author.Rules.{rules}
 use Rattle.laws.proofs.Tests.{cond_at}
 use Rattle.entries.proofs.Lines.{has_line, lent_is}
 use Rattle.entries.specs.Entries.{count_in, count_of}

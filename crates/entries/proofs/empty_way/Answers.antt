@@ -9,8 +9,7 @@ use lib.ListN.{get_or}
 use mir.Syntax.{w16}
 use mir.Val.{SFits, to_z, of_z}
 use mir.ValLaws.{to_z-of_z}
-use borrow.Author.Rules.{rules}
-use Rattle.laws.proofs.Search.{Searching, search_start, search_turn, search_hit, search_end}
+use Rattle.laws.proofs.Search.{search_start, search_turn, search_hit, search_end}
 use Rattle.counts.specs.Counts.{is_empty}
 use Rattle.entries.specs.Entries.{empty_way}
 use Rattle.entries.proofs.empty_way.Goals as goal

@@ -10,8 +10,7 @@ use lib.IntN.{ℤ, pos}
 use mir.Syntax.{w16}
 use mir.Val.{SFits, to_z, of_z}
 use mir.ValLaws.{to_z-of_z}
-use borrow.Author.Rules.{rules}
-use Rattle.laws.proofs.Search.{Searching, search_start, search_turn, search_hit, search_end}
+use Rattle.laws.proofs.Search.{search_start, search_turn, search_hit, search_end}
 use Rattle.counts.specs.Counts.{is_empty}
 use Rattle.entries.specs.Entries.{is_own, own_way}
 use Rattle.entries.proofs.own_way.Goals as goal

@@ -6,7 +6,6 @@ use lib.IntN.{ℤ}
 use Prim.Native.Nat.{ℕ, ◌<◌}
 use Rattle.entries.specs.Entries.{smallest_way}
 use Rattle.entries.proofs.Lines.{smallest_lt, room_own, room_empty, room_smallest}
-use borrow.Author.Rules.{rules}
 use native.Mathlib.Omega.{arith}
 use Rattle.entries.proofs.room_for.Goals as goal
 

@@ -1,14 +1,11 @@
 -- `entries::smallest_way` meets its contract: of four ways the first that no other falls below.
 -- Assumes nothing.
-use Prim.Native.Nat.{◌-◌, ◌≤◌}
 use Rattle.entries.specs.Entries.{smallest_way}
 use Rattle.laws.specs.Search.{foremost}
-use Rattle.laws.proofs.Search.{Leading, lead_start, lead_found, lead_kept, lead_end}
+use Rattle.laws.proofs.Search.{lead_start, lead_found, lead_kept, lead_end}
 use Rattle.laws.proofs.Signed.{signed, known, by_smallness}
-use borrow.Author.Rules.{rules}
 use lib.IntN.{pos}
 use lib.ListN.{get_or}
-use lib.Signed.{le_z}
 use mir.Syntax.{w16}
 use mir.Val.{SFits}
 use native.Mathlib.Omega.{arith}
@@ -24,8 +21,8 @@ loop-way-preserved c =
     let x : SFits w16 (get_or l c.loop-way.way (pos 0)) = record { sfits = c.t7-1.given } in
     let y : SFits w16 (get_or l c.loop-way.best (pos 0)) = record { sfits = c.t10-1.given } in (
       elim c.if-counts-way.branch [
-        then-counts-way w ↦ rw w.best-is (lead_found by_smallness _ c.loop-way.invariant.0 (omega (signed, known x, known y, w.if-counts-way.true)))
-      | else-counts-way w ↦ rw w.best-is (lead_kept by_smallness _ c.loop-way.invariant.0 (omega (signed, known x, known y, w.if-counts-way.false)))
+        | then-counts-way w ↦ rw w.best-is (lead_found by_smallness _ c.loop-way.invariant.0 (omega (signed, known x, known y, w.if-counts-way.true)))
+        | else-counts-way w ↦ rw w.best-is (lead_kept by_smallness _ c.loop-way.invariant.0 (omega (signed, known x, known y, w.if-counts-way.false)))
       ],
       omega arith,
     )

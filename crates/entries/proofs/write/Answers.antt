@@ -1,12 +1,9 @@
 -- `entries::write` meets its contract: what the writer did to the line, said of the table.
 -- Assumes nothing.
 use mathlib.Core.Path.{sym, ◌∙◌}
-use Prim.Native.Nat.{◌+◌, ◌*◌, ◌≤◌}
 use native.Mathlib.Omega.{arith}
-use lib.ListN.{length}
 use mir.Syntax.{w16}
 use mir.ValLaws.{to_z-of_z}
-use borrow.Author.Rules.{rules}
 use Rattle.laws.proofs.Tests.{cond_at}
 use Rattle.entries.proofs.Lines.{has_line, line_written}
 use Rattle.entries.specs.Entries.{written}

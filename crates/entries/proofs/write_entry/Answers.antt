@@ -6,7 +6,6 @@ use native.Mathlib.Omega.{arith}
 use lib.ListN.{set}
 use mir.Syntax.{w16}
 use mir.ValLaws.{to_z-of_z}
-use borrow.Author.Rules.{rules}
 use Rattle.entries.proofs.Lines.{room_lt}
 use Rattle.entries.proofs.write_entry.Goals as goal
 

@@ -4,7 +4,6 @@ use mathlib.Core.Path.{sym, ◌∙◌}
 use Rattle.gateway.specs.Calls.{state_of}
 use Rattle.rulings.specs.Rules.{rules_of}
 use Rattle.frames.proofs.Cases.{has_header, by_inside_lem, all_from}
-use borrow.Author.Rules.{rules}
 use Rattle.frames.proofs.judge.Goals as goal
 
 pub slice_bounds-packet-count : goal.slice_bounds-packet-count

@@ -5,7 +5,6 @@ use native.Mathlib.Omega.{arith}
 use Rattle.words.specs.Words.{two_at}
 use Rattle.words.proofs.Words.{there}
 use Rattle.frames.proofs.Cases.{too_short, ipv4, another}
-use borrow.Author.Rules.{rules}
 use Rattle.frames.proofs.what_is_in.Goals as goal
 
 pub returns-then-frame-lt14 : goal.returns-then-frame-lt14

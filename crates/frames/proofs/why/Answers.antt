@@ -1,7 +1,6 @@
 -- `frames::why` meets its contract: by what the frame holds.
 -- Assumes nothing.
 use mathlib.Core.Path.{sym, ◌∙◌}
-use borrow.Author.Rules.{rules}
 use Rattle.gateway.specs.Calls.{state_of}
 use Rattle.rulings.specs.Rules.{rules_of}
 use Rattle.frames.proofs.Cases.{has_header, why_inside_lem, all_from}

@@ -1,6 +1,5 @@
 -- `gateway::accept` meets its contract: the clock first, and then the packet.
 -- Assumes nothing.
-use borrow.Author.Rules.{rules}
 use Rattle.gateway.proofs.Steps.{accepted_as}
 use Rattle.gateway.specs.Calls.{state_of}
 use Rattle.rulings.specs.Rules.{rules_of}

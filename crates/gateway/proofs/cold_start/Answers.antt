@@ -1,7 +1,6 @@
 -- `gateway::cold_start` meets its contract: a refusal, or every record, tag and count filled and the clock set.
 -- Assumes nothing.
 use mathlib.Core.Path.{ap, ◌∙◌}
-use borrow.Author.Rules.{rules}
 use Rattle.gateway.proofs.Steps.{refused_by, not_refused}
 use Rattle.gateway.specs.Calls.{state_of, no_placing, cold_placing, cold_state, started}
 use Rattle.gateway.specs.declared.Reply.TheVariants.{Refused, Done}

@@ -1,6 +1,5 @@
 -- `gateway::deciding_entry` meets its contract: the number of the winning entry, and what stands in its part.
 -- Assumes nothing.
-use borrow.Author.Rules.{rules}
 use Rattle.gateway.proofs.deciding_entry.Goals as goal
 
 pub returns : goal.returns

@@ -1,7 +1,6 @@
 -- `gateway::explain_by_direction` meets its contract: by the direction, a packet of ours or one that is not.
 -- Assumes nothing.
 use mathlib.Core.Path.{◌∙◌}
-use borrow.Author.Rules.{rules}
 use Rattle.tables.specs.Tables.{tables_of}
 use Rattle.rulings.specs.Rules.{rules_of}
 use Rattle.gateway.specs.Calls.{tables_at}

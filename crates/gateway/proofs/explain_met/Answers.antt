@@ -2,7 +2,6 @@
 -- Assumes nothing.
 use mir.Syntax.{w16}
 use mir.ValLaws.{to_z-of_z}
-use borrow.Author.Rules.{rules}
 use Rattle.rulings.specs.Rules.{rules_of}
 use Rattle.gateway.proofs.Explained.{verdict_as, why_dropped, why_forwarded}
 use Rattle.gateway.proofs.explain_met.Goals as goal

@@ -1,6 +1,5 @@
 -- `gateway::explain_ours` meets its contract: where it is looked up, what it would meet, and what follows.
 -- Assumes nothing.
-use borrow.Author.Rules.{rules}
 use Rattle.gateway.proofs.Steps.{sizes_within, slot_within}
 use Rattle.gateway.proofs.Explained.{why_ours_lem}
 use Rattle.gateway.proofs.explain_ours.Goals as goal

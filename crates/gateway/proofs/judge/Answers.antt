@@ -1,7 +1,6 @@
 -- `gateway::judge` meets its contract: a refusal in the order of the numbers, or the packet at its time.
 -- Assumes nothing.
 use mathlib.Core.Path.{◌∙◌, sym}
-use borrow.Author.Rules.{rules}
 use Rattle.gateway.proofs.Steps.{refused_first, refused_reading, judged_as}
 use Rattle.gateway.specs.Calls.{state_of}
 use Rattle.refusals.proofs.Tests.{good_sizes}

@@ -1,6 +1,5 @@
 -- `gateway::judge_ours` meets its contract: where the packet is looked up, what follows, and what is written.
 -- Assumes nothing.
-use borrow.Author.Rules.{rules}
 use Rattle.tables.specs.Tables.{tables_of}
 use Rattle.gateway.proofs.Steps.{sizes_within, slot_within, ours_as}
 use Rattle.rulings.specs.Rules.{rules_of}

@@ -2,7 +2,6 @@
 -- Assumes nothing.
 use mir.Syntax.{w16}
 use mir.ValLaws.{to_z-of_z}
-use borrow.Author.Rules.{rules}
 use Rattle.gateway.proofs.Explained.{met_as}
 use Rattle.gateway.proofs.met_at.Goals as goal
 

@@ -1,7 +1,6 @@
 -- `gateway::pass` meets its contract: a refusal, or the clock passed over records and counts.
 -- Assumes nothing.
 use mathlib.Core.Path.{ap, ◌∙◌}
-use borrow.Author.Rules.{rules}
 use Rattle.gateway.proofs.Steps.{refused_by, not_refused}
 use Rattle.gateway.specs.Calls.{state_of, onward, passed}
 use Rattle.gateway.specs.declared.Reply.TheVariants.{Refused, Done}

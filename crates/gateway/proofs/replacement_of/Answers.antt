@@ -1,7 +1,6 @@
 -- `gateway::replacement_of` meets its contract: none, or the address of the replaced tag.
 -- Assumes nothing.
 use mathlib.Core.Path.{ap}
-use borrow.Author.Rules.{rules}
 use Rattle.rulings.specs.declared.answers.Replacement.TheVariants.{Address}
 use Rattle.gateway.proofs.replacement_of.Goals as goal
 

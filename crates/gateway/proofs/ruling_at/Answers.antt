@@ -5,7 +5,6 @@ use lib.IntN.{ℤ}
 use lib.ListN.{get_or}
 use mir.Syntax.{w16}
 use mir.ValLaws.{to_z-of_z}
-use borrow.Author.Rules.{rules}
 use Rattle.rulings.specs.Rules.{rules_of}
 use Rattle.rulings.specs.Rulings.{ruling_of}
 use Rattle.gateway.proofs.ruling_at.Goals as goal

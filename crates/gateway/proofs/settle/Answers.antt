@@ -2,7 +2,6 @@
 -- Assumes nothing.
 use mir.Syntax.{w16}
 use mir.ValLaws.{to_z-of_z}
-use borrow.Author.Rules.{rules}
 use Rattle.gateway.proofs.Steps.{settled_as}
 use Rattle.gateway.proofs.settle.Goals as goal
 

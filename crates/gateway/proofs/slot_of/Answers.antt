@@ -1,7 +1,6 @@
 -- `gateway::slot_of` meets its contract: the slot of plant address, cell address and port.
 -- Assumes nothing.
 use mathlib.Core.Path.{◌∙◌}
-use borrow.Author.Rules.{rules}
 use Rattle.places.specs.Places.{slot_of}
 use Rattle.gateway.proofs.slot_of.Goals as goal
 

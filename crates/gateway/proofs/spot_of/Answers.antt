@@ -2,7 +2,6 @@
 -- Assumes nothing.
 use mathlib.Core.Path.{◌∙◌, ap}
 use Prim.Native.Nat.{ℕ, ◌/◌}
-use borrow.Author.Rules.{rules}
 use Rattle.places.specs.Places.{place_of}
 use Rattle.gateway.proofs.spot_of.Goals as goal
 

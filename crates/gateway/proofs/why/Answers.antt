@@ -1,7 +1,6 @@
 -- `gateway::why` meets its contract: a refusal as the packet would get it, or why the packet is dropped.
 -- Assumes nothing.
 use mathlib.Core.Path.{◌∙◌, sym}
-use borrow.Author.Rules.{rules}
 use Rattle.refusals.proofs.Tests.{good_sizes}
 use Rattle.rulings.specs.Rules.{rules_of}
 use Rattle.gateway.specs.Calls.{state_of}

@@ -2,7 +2,6 @@
 -- Assumes nothing.
 use mathlib.Core.Path.{◌∙◌}
 use native.Mathlib.Omega.{arith}
-use borrow.Author.Rules.{rules}
 use Rattle.words.specs.Words.{two_at}
 use Rattle.words.proofs.Words.{there}
 use Rattle.packet.proofs.is_later.Goals as goal

@@ -1,7 +1,6 @@
 -- `packet::read` meets its contract: a refusal is its number alone.
 -- Assumes nothing.
 use mathlib.Core.Path.{sym, ◌∙◌}
-use borrow.Author.Rules.{rules}
 use Rattle.packet.proofs.Order.{sound, answered_no, answered_yes}
 use Rattle.packet.proofs.read.Goals as goal
 

@@ -1,14 +1,10 @@
 -- `packet::transport_of` meets its contract: each arm is the definition's case, and the bytes that it reads are there.
 -- Assumes nothing.
-use mathlib.Core.Path.{◌≡◌, refl, sym, ◌∙◌}
-use mathlib.Core.Bool.{false}
-use Prim.Native.Nat.{ℕ, ◌+◌, ◌≤◌}
+use mathlib.Core.Path.{refl, sym, ◌∙◌}
 use native.Mathlib.Omega.{arith}
-use lib.ListN.{length}
 use borrow.Author.Tests.{ne_eqb}
-use borrow.Author.Rules.{rules}
 use Rattle.packet.specs.Kinds.{kind_of}
-use Rattle.packet.specs.Header.{protocol, needed, transport_of}
+use Rattle.packet.specs.Header.{needed, transport_of}
 use Rattle.packet.proofs.Order.{there}
 use Rattle.packet.proofs.transport_of.Goals as goal
 

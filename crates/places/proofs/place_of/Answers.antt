@@ -1,7 +1,6 @@
 -- `places::place_of` meets its contract: remainder and quotient, also where there are no lines.
 -- Assumes nothing.
 use native.Mathlib.Nat.{mod-zero, div-zero}
-use borrow.Author.Rules.{rules}
 use Rattle.places.specs.Places.{place_of}
 use Rattle.places.proofs.place_of.Goals as goal
 

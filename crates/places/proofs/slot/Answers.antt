@@ -1,7 +1,6 @@
 -- `places::slot` meets its contract: three permutations, and a remainder that is the word itself where there are no records.
 -- Assumes nothing.
 use native.Mathlib.Nat.{mod-zero}
-use borrow.Author.Rules.{rules}
 use Rattle.places.specs.Places.{slot_of}
 use Rattle.places.proofs.slot.Goals as goal
 

@@ -2,7 +2,6 @@
 -- Assumes nothing.
 use mathlib.Core.Bool.{not, not-not}
 use mathlib.Core.Path.{ap, ◌∙◌}
-use borrow.Author.Rules.{rules}
 use Rattle.verdicts.specs.Verdicts.{is_forwarded}
 use Rattle.reasons.proofs.passes.Goals as goal
 

@@ -1,7 +1,6 @@
 -- `reasons::passes_as_some_kind` meets its contract: each kind is tried.
 -- Assumes nothing.
 use mathlib.Core.Bool.{false}
-use borrow.Author.Rules.{rules}
 use Rattle.verdicts.specs.Verdicts.{is_forwarded, verdict_of}
 use Rattle.reasons.proofs.Reasons.{kinds_tried}
 use Rattle.reasons.proofs.passes_as_some_kind.Goals as goal

@@ -2,7 +2,6 @@
 -- Assumes nothing.
 use mir.Syntax.{w16}
 use mir.ValLaws.{to_z-of_z}
-use borrow.Author.Rules.{rules}
 use Rattle.reasons.specs.Reasons.{facts_of}
 use Rattle.reasons.proofs.Reasons.{reported_as}
 use Rattle.reasons.proofs.report.Goals as goal

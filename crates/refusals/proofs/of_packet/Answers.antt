@@ -1,7 +1,6 @@
 -- `refusals::of_packet` meets its contract: 1 and 2 first, then either list, and then the time.
 -- Assumes nothing.
 use mathlib.Core.Path.{sym, ◌∙◌}
-use borrow.Author.Rules.{rules}
 use borrow.Author.Tests.{lt-ltb, le-ltb}
 use Rattle.refusals.proofs.Tests.{packet_early, packet_late}
 use Rattle.refusals.proofs.of_packet.Goals as goal

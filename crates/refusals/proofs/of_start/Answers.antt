@@ -1,7 +1,6 @@
 -- `refusals::of_start` meets its contract: its tests in their order.
 -- Assumes nothing.
 use mathlib.Core.Path.{sym, ◌∙◌}
-use borrow.Author.Rules.{rules}
 use Rattle.refusals.specs.Refusals.{start_refusal}
 use Rattle.refusals.proofs.of_start.Goals as goal
 

@@ -1,6 +1,5 @@
 -- `refusals::of_time` meets its contract: 1 and 2 first, and then the time.
 -- Assumes nothing.
-use borrow.Author.Rules.{rules}
 use borrow.Author.Tests.{lt-ltb, le-ltb}
 use Rattle.refusals.proofs.Tests.{time_early, time_late}
 use Rattle.refusals.proofs.of_time.Goals as goal

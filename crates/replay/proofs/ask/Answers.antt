@@ -3,7 +3,6 @@
 use Rattle.gateway.specs.Calls.{state_of}
 use Rattle.replay.specs.Replay.{program_placing}
 use Rattle.replay.proofs.Cases.{is_asked, not_asked}
-use borrow.Author.Rules.{rules}
 use Rattle.replay.proofs.ask.Goals as goal
 
 pub returns-then-asks : goal.returns-then-asks

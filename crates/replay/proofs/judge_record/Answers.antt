@@ -1,7 +1,6 @@
 -- `replay::judge_record` meets its contract: a start where it is due, then the question where it is asked, and then the frame.
 -- Assumes nothing.
 use Rattle.replay.proofs.Cases.{judged_as}
-use borrow.Author.Rules.{rules}
 use Rattle.replay.proofs.judge_record.Goals as goal
 
 pub returns : goal.returns

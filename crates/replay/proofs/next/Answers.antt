@@ -4,7 +4,6 @@ use mathlib.Core.Path.{◌∙◌, sym, refl}
 use native.Mathlib.Omega.{arith}
 use Rattle.capture.proofs.Readings.{whole_record}
 use Rattle.replay.proofs.Cases.{read_as, whole_as}
-use borrow.Author.Rules.{rules}
 use Rattle.replay.proofs.next.Goals as goal
 
 pub judge_record-got-requires : goal.judge_record-got-requires

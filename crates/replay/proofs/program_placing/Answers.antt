@@ -1,6 +1,5 @@
 -- `replay::program_placing` meets its contract: the keys of the settings.
 -- Assumes nothing.
-use borrow.Author.Rules.{rules}
 use Rattle.replay.proofs.program_placing.Goals as goal
 
 pub returns : goal.returns

@@ -1,6 +1,5 @@
 -- `replay::program_settings` meets its contract: what the factory gives, with another T.
 -- Assumes nothing.
-use borrow.Author.Rules.{rules}
 use Rattle.replay.proofs.program_settings.Goals as goal
 
 pub returns : goal.returns

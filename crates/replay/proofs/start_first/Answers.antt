@@ -1,6 +1,5 @@
 -- `replay::start_first` meets its contract: the first record starts cold, a further one does not.
 -- Assumes nothing.
-use borrow.Author.Rules.{rules}
 use mathlib.Core.Path.{sym}
 use Rattle.replay.proofs.Cases.{first, further}
 use Rattle.replay.proofs.start_first.Goals as goal

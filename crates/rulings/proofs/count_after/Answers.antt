@@ -5,7 +5,6 @@ use mathlib.Core.Path.{ap}
 use lib.IntN.{ℤ}
 use mir.Syntax.{w16}
 use mir.ValLaws.{to_z-of_z}
-use borrow.Author.Rules.{rules}
 use Rattle.rulings.specs.Rulings.{count_written}
 use Rattle.rulings.specs.declared.Counted.{Counted}
 use Rattle.rulings.proofs.count_after.Goals as goal

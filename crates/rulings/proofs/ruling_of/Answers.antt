@@ -2,7 +2,6 @@
 -- Assumes nothing.
 use mir.Syntax.{w16}
 use mir.ValLaws.{to_z-of_z}
-use borrow.Author.Rules.{rules}
 use Rattle.rulings.proofs.Steps.{ruled}
 use Rattle.rulings.proofs.ruling_of.Goals as goal
 

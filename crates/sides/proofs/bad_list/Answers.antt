@@ -1,16 +1,13 @@
 -- `sides::bad_list` meets its contract. The loop's invariant: no prefix length passed is over 32.
 -- Assumes nothing.
-use mathlib.Core.Bool.{true}
 use mathlib.Core.Path.{◌≡◌}
-use Prim.Native.Nat.{◌≤◌, ◌-◌, ◌/◌}
+use Prim.Native.Nat.{◌/◌}
 use native.Mathlib.Omega.{arith}
-use lib.Dec.{leb}
 use lib.ListN.{length}
 use borrow.Author.Rules.{rules}
 use borrow.Author.Tests.{le-leb, lt-leb}
-use Rattle.laws.specs.Search.{every}
 use Rattle.laws.proofs.Search.{every_none, every_more, every_not}
-use Rattle.sides.specs.Lists.{prefix_at, bad_list}
+use Rattle.sides.specs.Lists.{bad_list}
 use Rattle.sides.proofs.bad_list.Goals as goal
 
 pub returns-then-list-entries : goal.returns-then-list-entries

@@ -1,15 +1,10 @@
 -- `sides::bad_list` meets its contract. The loop's invariant: no prefix length passed is over 32.
 use mathlib.Core.Bool.{true}
 use mathlib.Core.Path.{◌≡◌}
-use Prim.Native.Nat.{◌≤◌, ◌-◌, ◌/◌}
-use native.Mathlib.Omega.{arith}
+use Prim.Native.Nat.{◌≤◌, ◌-◌}
 use lib.Dec.{leb}
-use lib.ListN.{length}
-use borrow.Author.Rules.{rules}
-use borrow.Author.Tests.{le-leb, lt-leb}
 use Rattle.laws.specs.Search.{every}
-use Rattle.laws.proofs.Search.{every_none, every_more, every_not}
-use Rattle.sides.specs.Lists.{prefix_at, bad_list}
+use Rattle.sides.specs.Lists.{prefix_at}
 use Rattle.sides.proofs.bad_list.Given as goal
 
 abbrev pub invariant-loop-k : goal.invariant-loop-k

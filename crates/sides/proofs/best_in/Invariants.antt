@@ -1,8 +1,6 @@
 -- `sides::best_in` meets its contract. The loop's invariant: what is kept is the best of the entries passed.
-use mathlib.Core.Logic.{⊎_elim}
 use Prim.Native.Nat.{◌-◌}
-use borrow.Author.Rules.{rules}
-use Rattle.sides.proofs.Steps.{Besting, best_start, best_better, best_kept, best_end}
+use Rattle.sides.proofs.Steps.{Besting}
 use Rattle.sides.proofs.best_in.Given as goal
 
 abbrev pub invariant-loop-k : goal.invariant-loop-k

@@ -1,8 +1,6 @@
 -- `sides::best_of_two` meets its contract. The loop's invariant: for each of the two addresses, what is kept is the best of the entries
-use mathlib.Core.Logic.{⊎_elim}
 use Prim.Native.Nat.{◌-◌}
-use Rattle.sides.proofs.Steps.{Besting, best_start, best_better, best_kept, best_end}
-use borrow.Author.Rules.{rules}
+use Rattle.sides.proofs.Steps.{Besting}
 use Rattle.sides.proofs.best_of_two.Given as goal
 
 abbrev pub invariant-loop-k : goal.invariant-loop-k

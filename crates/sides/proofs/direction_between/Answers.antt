@@ -2,7 +2,6 @@
 -- Assumes nothing.
 use mathlib.Core.Path.{◌∙◌}
 use Rattle.sides.specs.Lists.{side_by, direction_of}
-use borrow.Author.Rules.{rules}
 use Rattle.sides.proofs.direction_between.Goals as goal
 
 pub returns : goal.returns

@@ -1,6 +1,5 @@
 -- `sides::entry_in` meets its contract: each number is the definition's.
 -- Assumes nothing.
-use borrow.Author.Rules.{rules}
 use Rattle.sides.proofs.entry_in.Goals as goal
 
 pub returns : goal.returns

@@ -3,7 +3,6 @@
 use mathlib.Core.Path.{sym}
 use native.Mathlib.Omega.{arith}
 use lib.ListN.{get_or-eq_default}
-use borrow.Author.Rules.{rules}
 use Rattle.sides.proofs.prefix_in.Goals as goal
 
 pub returns-then-part-lt5 : goal.returns-then-part-lt5

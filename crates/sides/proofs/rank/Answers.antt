@@ -1,6 +1,5 @@
 -- `sides::rank` meets its contract: the tests are those of the definition.
 -- Assumes nothing.
-use borrow.Author.Rules.{rules}
 use Rattle.sides.proofs.Steps.{too_long, held, not_held}
 use Rattle.sides.proofs.rank.Goals as goal
 

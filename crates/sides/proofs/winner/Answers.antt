@@ -3,7 +3,6 @@
 use mathlib.Core.Path.{sym, ◌∙◌}
 use Rattle.sides.specs.Lists.{side_by}
 use Rattle.sides.proofs.Steps.{in_list, on_side, cell_holds, plant_holds}
-use borrow.Author.Rules.{rules}
 use Rattle.sides.proofs.winner.Goals as goal
 
 pub part-requires : goal.part-requires

@@ -3,7 +3,6 @@
 use mathlib.Core.Path.{sym, ◌∙◌}
 use Rattle.sides.specs.Lists.{side_by}
 use Rattle.sides.proofs.Steps.{on_side}
-use borrow.Author.Rules.{rules}
 use Rattle.sides.proofs.winning_entry.Goals as goal
 
 pub returns-in-Cell : goal.returns-in-Cell

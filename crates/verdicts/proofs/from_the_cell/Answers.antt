@@ -1,7 +1,6 @@
 -- `verdicts::from_the_cell` meets its contract: each test chooses a branch of the definition.
 -- Assumes nothing.
 use mathlib.Core.Path.{sym, ◌∙◌}
-use borrow.Author.Rules.{rules}
 use Rattle.verdicts.specs.Verdicts.{from_the_cell}
 use Rattle.verdicts.proofs.from_the_cell.Goals as goal
 

@@ -1,6 +1,5 @@
 -- `verdicts::from_the_plant` meets its contract: the test of each mark chooses a branch of the definition.
 -- Assumes nothing.
-use borrow.Author.Rules.{rules}
 use Rattle.verdicts.specs.Verdicts.{from_the_plant}
 use Rattle.verdicts.proofs.from_the_plant.Goals as goal
 

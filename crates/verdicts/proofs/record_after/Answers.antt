@@ -1,6 +1,5 @@
 -- `verdicts::record_after` meets its contract: the test of what leaves a record chooses a branch of the definition.
 -- Assumes nothing.
-use borrow.Author.Rules.{rules}
 use Rattle.verdicts.proofs.Records.{left_alone, renewed_as}
 use Rattle.verdicts.proofs.record_after.Goals as goal
 

@@ -1,6 +1,5 @@
 -- `verdicts::verdict_of` meets its contract: the definition of the packet's direction and of its cell address's state.
 -- Assumes nothing.
-use borrow.Author.Rules.{rules}
 use Rattle.verdicts.specs.Verdicts.{verdict_of}
 use Rattle.verdicts.proofs.verdict_of.Goals as goal
 

@@ -2,7 +2,6 @@
 -- Assumes nothing.
 use mir.Syntax.{w16}
 use mir.ValLaws.{to_z-of_z}
-use borrow.Author.Rules.{rules}
 use Rattle.embed.proofs.plain.of_judged.Goals as goal
 
 pub returns-in-None : goal.returns-in-None

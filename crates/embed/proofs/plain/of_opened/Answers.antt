@@ -1,6 +1,5 @@
 -- `plain::of_opened` meets its contract: each arm is the definition's case.
 -- Assumes nothing.
-use borrow.Author.Rules.{rules}
 use Rattle.embed.proofs.plain.of_opened.Goals as goal
 
 pub returns-in-Refused : goal.returns-in-Refused

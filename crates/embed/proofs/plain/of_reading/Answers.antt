@@ -1,6 +1,5 @@
 -- `plain::of_reading` meets its contract: each arm is the definition's case.
 -- Assumes nothing.
-use borrow.Author.Rules.{rules}
 use Rattle.embed.proofs.plain.of_reading.Goals as goal
 
 pub returns-in-End : goal.returns-in-End

@@ -1,6 +1,5 @@
 -- `plain::of_winning` meets its contract: the side by its number.
 -- Assumes nothing.
-use borrow.Author.Rules.{rules}
 use Rattle.embed.proofs.plain.of_winning.Goals as goal
 
 pub returns : goal.returns

@@ -1,6 +1,5 @@
 -- `plain::of_written` meets its contract: each arm is the definition's case.
 -- Assumes nothing.
-use borrow.Author.Rules.{rules}
 use Rattle.embed.proofs.plain.of_written.Goals as goal
 
 pub returns-in-Refused : goal.returns-in-Refused

@@ -1,7 +1,6 @@
 -- `plain::tally_with` meets its contract: a refusal leaves all totals, and else the verdict is added to them.
 -- Assumes nothing.
 use mathlib.Core.Path.{sym, ◌∙◌}
-use borrow.Author.Rules.{rules}
 use Rattle.embed.proofs.Numbers.{refused_adds_none, else_adds_verdict}
 use Rattle.embed.proofs.plain.tally_with.Goals as goal
 

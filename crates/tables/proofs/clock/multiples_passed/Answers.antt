@@ -3,7 +3,6 @@
 use mathlib.Core.Path.{sym, ap, ◌∙◌}
 use Prim.Native.Nat.{ℕ}
 use native.Mathlib.Omega.{arith}
-use borrow.Author.Rules.{rules}
 use Rattle.laws.proofs.Times.{quotient_up}
 use Rattle.tables.proofs.Jumps.{passed_is, passed_none, passed_of_none}
 use Rattle.tables.specs.Clock.{multiples_passed}

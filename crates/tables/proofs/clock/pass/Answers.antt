@@ -3,7 +3,6 @@
 use mathlib.Core.Path.{sym}
 use native.Mathlib.Nat.{mul-le-mul_right, le_of_lt}
 use native.Mathlib.Omega.{arith}
-use borrow.Author.Rules.{rules}
 use Rattle.tables.proofs.Jumps.{stands, moves}
 use Rattle.tables.specs.Clock.{timed_of}
 use Rattle.tables.proofs.clock.pass.Goals as goal

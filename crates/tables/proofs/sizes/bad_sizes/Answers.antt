@@ -1,6 +1,5 @@
 -- `tables::sizes::bad_sizes` meets its contract: the tests are those of the definition.
 -- Assumes nothing.
-use borrow.Author.Rules.{rules}
 use Rattle.tables.specs.Sizes.{bad_sizes}
 use Rattle.tables.proofs.sizes.bad_sizes.Goals as goal
 

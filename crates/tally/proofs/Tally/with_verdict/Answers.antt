@@ -1,7 +1,6 @@
 -- `Tally::with_verdict` meets its contract: a number over 6 leaves all totals, and for any other one more is stored at its own.
 -- Assumes nothing.
 use mathlib.Core.Path.{sym, ◌∙◌}
-use borrow.Author.Rules.{rules}
 use Rattle.tally.specs.Tally.{tallied}
 use Rattle.tally.proofs.Totals.{one_of_seven, beyond_seven}
 use Rattle.tally.proofs.Tally.with_verdict.Goals as goal
