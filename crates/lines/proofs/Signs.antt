@@ -9,9 +9,12 @@ use lib.IntN.{ℤ, pos, negsuc, ◌-ℤ◌, nat_abs}
 use lib.Signed.{lt_z, non_neg}
 use lib.Dec.{T}
 use mir.Syntax.{w16, w32, w64}
-use mir.Val.{Fits, SFits}
+use mir.Val.{Fits, SFits, to_z, of_z}
+use mir.ValLaws.{to_z-of_z}
 use borrow.Author.Tests.{ltb-true}
 use Rattle.lines.specs.Text.{dash, decimal, signed}
+use Rattle.lines.specs.Room.{Room, put_byte, put}
+use Rattle.lines.proofs.Rooms.{byte_then}
 
 pub wider : (z : ℤ) → SFits w16 z → SFits w32 z
 wider z f = record { sfits = omega (arith, f.sfits) }
@@ -39,3 +42,10 @@ signed_below (negsuc n) below = refl
 pub signed_above : (z : ℤ) → lt_z z (pos 0) ≡ false → signed z ≡ decimal (nat_abs z)
 signed_above (pos n) above = refl
 signed_above (negsuc n) above = let q : ◌≡◌ {A = ℕ} 0 1 = cc in absurd (omega arith)
+
+-- what is put of a count below 0: a minus, and then how far it is from 0
+pub put_below : (z : ℤ) (before next after : Room) (m : ℕ) → SFits w16 z → lt_z (to_z w16 (of_z w16 z)) (pos 0) ≡ true
+    → next ≡ put_byte dash before → m ≡ nat_abs (to_z w16 (of_z w16 z)) → after ≡ put (decimal m) next → after ≡ put (signed z) before
+put_below z before next after m f below minus size rest =
+    let same = to_z-of_z w16 z f in
+    rw (signed_below z (rw same at below)) (byte_then before dash (decimal (nat_abs z)) minus (rw (size, same) at rest))

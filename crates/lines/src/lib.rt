@@ -58,6 +58,7 @@ fn magnitude(count: i16) -> u64
 }
 
 // Puts a count, with its sign where it is below 0, and answers the place after it.
+#[tactic(auto, using(crate::proofs::Signs::put_below, crate::proofs::Signs::signed_above))]
 pub fn put_signed(room: &mut [u8], at: usize, count: i16) -> usize
     ensures { left_room room result ≡ put (signed count) (lent_room room at) }
 {

@@ -58,6 +58,7 @@ fn place_after(written: Written, at: usize) -> usize
 }
 
 // Puts a record that went through.
+#[tactic(auto, unfolding(crate::specs::Outputs::forwarded_put))]
 fn put_forwarded(room: &mut [u8], at: usize, read: Record, frame: &[u8], answer: Answer) -> usize
     ensures { left_room room result
         ≡ forwarded_put (content_of read.seconds read.microseconds read.original frame.now) answer (lent_room room at) }
