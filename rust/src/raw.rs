@@ -1,5 +1,6 @@
-//! What the archives export, as it is: structs, and functions over lent memory. Written by tools/boundary from crates/embed/src and
-//! crates/embed_why/src. include/spritgrommet.h says what each function does, and what a caller by pointers has to keep to.
+//! What the archives export, as it is: structs, and functions over lent memory. Written by tools/boundary from crates/embed_c/src,
+//! crates/embed_why_c/src and the sources of their structs. include/spritgrommet.h says what each function does, and what a caller by
+//! pointers has to keep to.
 #![allow(clippy::too_many_arguments)]
 
 /// The settings that have a range, which every call of a gateway takes. The type of each number is wider than its range, so that a value

@@ -41,11 +41,11 @@ module _ (big : Bool) (before : List ℕ) (r : Content) (rest : List ℕ) (ok : 
   holds : Holds record_words (record_numbers r)
   holds = (ok.0, (ok.1, (omega (arith, ok.3), (ok.2, tt))))
 
-  header_size : length header ≡ 16
-  header_size = layout_size big record_words (record_numbers r) holds
+  header_size_lem : length header ≡ 16
+  header_size_lem = layout_size big record_words (record_numbers r) holds
 
-  pub record_size : length (record_bytes big r) ≡ 16 + length r.bytes
-  record_size = length-append header r.bytes ∙ omega (arith, header_size)
+  pub record_size_lem : length (record_bytes big r) ≡ 16 + length r.bytes
+  record_size_lem = length-append header r.bytes ∙ omega (arith, header_size_lem)
 
   module _ (l : List ℕ) (stands : l ≡ before ++ (record_bytes big r ++ rest)) where
     -- its words
@@ -60,7 +60,7 @@ module _ (big : Bool) (before : List ℕ) (r : Content) (rest : List ℕ) (ok : 
     long : length l ≡ at + (16 + length r.bytes) + length rest
     long =
         ap length stands
-        ∙ omega (arith, length-append before (record_bytes big r ++ rest), length-append (record_bytes big r) rest, record_size)
+        ∙ omega (arith, length-append before (record_bytes big r ++ rest), length-append (record_bytes big r) rest, record_size_lem)
 
     pub reads_one : next_of l (cursor_at big at) ≡ Whole (head_at big at l)
     reads_one = is_whole l (cursor_at big at) (omega (arith, long)) (omega (arith, captured_is, ok.3)) (omega (arith, captured_is, long))
@@ -68,7 +68,7 @@ module _ (big : Bool) (before : List ℕ) (r : Content) (rest : List ℕ) (ok : 
     -- its bytes
     body : bytes_of l (head_at big at l) ≡ r.bytes
     body =
-        let front : length (before ++ header) ≡ at + 16 = length-append before header ∙ omega (arith, header_size) in
+        let front : length (before ++ header) ≡ at + 16 = length-append before header ∙ omega (arith, header_size_lem) in
         let whole : l ≡ (before ++ header) ++ (r.bytes ++ rest) =
         stands ∙ ap (◌++◌ before) (append_assoc header r.bytes rest) ∙ sym (append_assoc before header (r.bytes ++ rest)) in
         let count : (head_at big at l).end - (head_at big at l).from ≡ length r.bytes = omega (arith, captured_is) in
@@ -81,7 +81,7 @@ module _ (big : Bool) (before : List ℕ) (r : Content) (rest : List ℕ) (ok : 
     tells_one = λ i. content_of (get_or (told i) 0 0) (get_or (told i) 1 0) (get_or (told i) 3 0) (body i)
 
     pub ends_one : (head_at big at l).end ≡ length (before ++ record_bytes big r)
-    ends_one = omega (arith, captured_is, length-append before (record_bytes big r), record_size)
+    ends_one = omega (arith, captured_is, length-append before (record_bytes big r), record_size_lem)
 
 -- ---- records that were written, behind other bytes
 module _ (big : Bool) (l : List ℕ) where
@@ -96,12 +96,12 @@ module _ (big : Bool) (l : List ℕ) where
   unfolding in_turn
   read_back zero before [] ok e few = (none_left before e, refl)
   read_back zero before (r ∷ records) ok e few =
-      absurd (omega (arith, few, length-append (record_bytes big r) (records_bytes big records), record_size big before r [] ok.0))
+      absurd (omega (arith, few, length-append (record_bytes big r) (records_bytes big records), record_size_lem big before r [] ok.0))
   read_back (suc turns) before [] ok e few =
       subst (λ x. Back [] (turn (cursor_at big (length before)) (λ c. in_turn turns l c) x)) (sym (none_left before e)) (refl, refl)
   read_back (suc turns) before (r ∷ records) ok e few =
       let rest : List ℕ = records_bytes big records in
-      let size = record_size big before r rest ok.0 in
+      let size = record_size_lem big before r rest ok.0 in
       let further = read_back turns (before ++ record_bytes big r) records ok.1 (e ∙ sym (append_assoc before (record_bytes big r) rest))
       (omega (arith, few, length-append (record_bytes big r) rest, size)) in
       let moved = subst (λ n. Back records (in_turn turns l (cursor_at big n))) (sym (ends_one big before r rest ok.0 l e)) further in

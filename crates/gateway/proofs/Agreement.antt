@@ -212,15 +212,15 @@ module _ (limits : Limits) (cell plant : List ℕ) where
       (cond t
       (why.Forwarded (verdict_by (rules_of limits) h false met.byte met.count))
       (why.Dropped (drop_of (rules_of limits) cell plant h (verdict_by (rules_of limits) h false met.byte met.count) met)))
-  cell_true h met d true e = verdict_alone _ e
-  cell_true h met d false e =
+  cell_true h m d true e = verdict_alone _ e
+  cell_true h m d false e =
       let ends = sides_of _ _ d in
       told_why (record {
         threshold = refl;
         verdict = refl;
         dropped = e;
         reported = refl;
-        one = at_least_one limits.threshold (facts_of met.count (plant_seen met.byte) (cell_seen met.byte) h.transport.kind) e;
+        one = at_least_one limits.threshold (facts_of m.count (plant_seen m.byte) (cell_seen m.byte) h.transport.kind) e;
         of_cell = stands_at h.source Cell ends.0;
         of_plant = stands_at h.destination Plant ends.1;
         cell_bytes = in_cell cell plant h.source ends.0;
@@ -232,8 +232,8 @@ module _ (limits : Limits) (cell plant : List ℕ) where
       (cond t
       (why.Forwarded (verdict_by (rules_of limits) h true met.byte met.count))
       (why.Dropped (drop_of (rules_of limits) cell plant h (verdict_by (rules_of limits) h true met.byte met.count) met)))
-  plant_true h met true e = verdict_alone _ e
-  plant_true h met false e = true_is_not_false (plant_passes _ _ _) e
+  plant_true h m true e = verdict_alone _ e
+  plant_true h m false e = true_is_not_false (plant_passes _ _ _) e
 
   -- what a packet of ours meets
   abbrev met_by : Placing → Header → Bool → Tables → Met

@@ -521,6 +521,6 @@ embed_why_spritgrommet_why_frame_one κs a x y s t p q = same p q
 pub embed_why_plain_of_explanation_one : (κs : _) (a : _) → One (embed_why_plain_of_explanation.Learnt κs a) (λ x s. x)
 embed_why_plain_of_explanation_one κs a x y s t p q = same p q
 
--- programs::replay is left out: it answers nothing, is lent nothing, and what it reads and writes no contract can say
+-- programs::replay is left out: it answers nothing, is lent the runtime alone, and what it reads and writes no contract can say
 
--- streams::fill is left out: it reads standard input, and what is read no contract can say
+-- streams::fill is left out: it reads what its reader gives, which no contract can say of standard input

@@ -581,7 +581,7 @@ module _ (takes : ℕ) (reason : List ℕ) (output : Output) (pieces : List (Lis
   said = program takes reason output turns header buffer room (record { pieces = pieces; fails = fails })
 
   -- no piece is empty, and all are of bytes; the header's buffer has its size, the others have place for a record; and there are turns enough:
-  -- a program counts down from 2 ^ 64 - 1
+  -- a program counts up to 2 ^ 64 - 1
   pub record Given : Type 0 where
     pub full : AllFull pieces
     pub bytes : Bytes capture

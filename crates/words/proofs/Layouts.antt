@@ -91,12 +91,12 @@ numbers_back big (w ∷ words) (n ∷ numbers) before rest at past e h =
 
 -- ---- what was read is written
 -- the bytes of a number are those that make it
-two_bytes : (a b : ℕ) → a < 256 → b < 256 → (of_two a b / 256 % 256 ≡ a) × (of_two a b % 256 ≡ b)
-two_bytes a b h g = (omega arith, omega arith)
+two_bytes_lem : (a b : ℕ) → a < 256 → b < 256 → (of_two a b / 256 % 256 ≡ a) × (of_two a b % 256 ≡ b)
+two_bytes_lem a b h g = (omega arith, omega arith)
 
-four_bytes : (a b c d : ℕ) → a < 256 → b < 256 → c < 256 → d < 256
+four_bytes_lem : (a b c d : ℕ) → a < 256 → b < 256 → c < 256 → d < 256
     → (of_four a b c d / 16777216 % 256 ≡ a) × (of_four a b c d / 65536 % 256 ≡ b) × (of_four a b c d / 256 % 256 ≡ c) × (of_four a b c d % 256 ≡ d)
-four_bytes a b c d ha hb hc hd = (omega arith, omega arith, omega arith, omega arith)
+four_bytes_lem a b c d ha hb hc hd = (omega arith, omega arith, omega arith, omega arith)
 
 module _ (l : List ℕ) (bytes : Bytes l) where
   taken : (k p q : ℕ) → q ≡ p + 1 → p < length l → take (suc k) (drop p l) ≡ get_or l p 0 ∷ take k (drop q l)
@@ -120,13 +120,13 @@ module _ (l : List ℕ) (bytes : Bytes l) where
       ∙ ap (λ (r : List ℕ). get_or l (at + 2) 0 ∷ r) (taken 0 (at + 3) (at + 4) (omega arith) (omega arith))))
 
   bytes_back : (big : Bool) (w : Word) (at : ℕ) → at + size w ≤ length l → bytes_in big w (number_in big w l at) ≡ take (size w) (drop at l)
-  bytes_back true two at h = let t = two_bytes _ _ (bytes at) (bytes (at + 1)) in
+  bytes_back true two at h = let t = two_bytes_lem _ _ (bytes at) (bytes (at + 1)) in
       rw (two_there at h) (λ i. t.0 i ∷ (t.1 i ∷ []))
-  bytes_back false two at h = let t = two_bytes _ _ (bytes (at + 1)) (bytes at) in
+  bytes_back false two at h = let t = two_bytes_lem _ _ (bytes (at + 1)) (bytes at) in
       rw (two_there at h) (λ i. t.1 i ∷ (t.0 i ∷ []))
-  bytes_back true four at h = let t = four_bytes _ _ _ _ (bytes at) (bytes (at + 1)) (bytes (at + 2)) (bytes (at + 3)) in
+  bytes_back true four at h = let t = four_bytes_lem _ _ _ _ (bytes at) (bytes (at + 1)) (bytes (at + 2)) (bytes (at + 3)) in
       rw (four_there at h) (λ i. t.0 i ∷ (t.1 i ∷ (t.2 i ∷ (t.3 i ∷ []))))
-  bytes_back false four at h = let t = four_bytes _ _ _ _ (bytes (at + 3)) (bytes (at + 2)) (bytes (at + 1)) (bytes at) in
+  bytes_back false four at h = let t = four_bytes_lem _ _ _ _ (bytes (at + 3)) (bytes (at + 2)) (bytes (at + 1)) (bytes at) in
       rw (four_there at h) (λ i. t.3 i ∷ (t.2 i ∷ (t.1 i ∷ (t.0 i ∷ []))))
 
   -- a number that is read fits its word
