@@ -24,7 +24,7 @@ use Rattle.places.specs.declared.Placing.{Placing}
 use Rattle.places.specs.Places.{place_of}
 use Rattle.records.specs.Records.{marks_of, is_unmarked, is_cold}
 use Rattle.counts.specs.Counts.{is_blocked}
-use Rattle.entries.specs.declared.Replaced.TheVariants.{Nothing}
+use Rattle.std.specs.Prelude.{None}
 use Rattle.entries.specs.Entries.{Written, written_of, written}
 use Rattle.entries.proofs.Readback.{same_lengths}
 use Rattle.entries.proofs.Once.{Once, once_after}
@@ -122,7 +122,7 @@ module _ (x : Setup) (start : Start) where
     wrote n =
         cond (counted_by count n).writes
         (written place.line place.tag (counted_by count n).count s.tables.tags s.tables.counts)
-        (written_of Nothing s.tables.tags s.tables.counts)
+        (written_of None s.tables.tags s.tables.counts)
 
     abbrev gone_by : Option ℤ → Replacement
     gone_by n = replacement_of keys (lines_in s) place.line (wrote n).replaced

@@ -20,8 +20,7 @@ use Rattle.places.specs.declared.Place.{Place}
 use Rattle.places.specs.Places.{place_of, address_of}
 use Rattle.places.proofs.Places.{line_lt, recovered, one_address}
 use Rattle.counts.specs.Counts.{is_empty}
-use Rattle.entries.specs.declared.Replaced.{Replaced}
-use Rattle.entries.specs.declared.Replaced.TheVariants.{Nothing, Tag}
+use Rattle.std.specs.Prelude.{Option, Some, None}
 use Rattle.entries.specs.Entries.{lacks_line, count_of, Written, written}
 use Rattle.entries.proofs.Readback.{read_back, others_keep, other_lines_keep, nothing_is_no_tag}
 use Rattle.entries.proofs.Decay.{by_dn}
@@ -66,7 +65,7 @@ module _ {keys : List ℕ} (k : Keys keys) (lines a : ℕ) (is : lines ≡ 2 ^ a
       own_count h = read_back (placed writer).line (placed writer).tag count tags counts (there writer) (not_empty count h)
 
       -- the address that the answer names as replaced, if any
-      abbrev named_by : Replaced → List ℕ
+      abbrev named_by : Option ℕ → List ℕ
       named_by replaced = one_or_none (address_told (replacement_of keys lines (placed writer).line replaced))
 
       module _ (once : Once tags counts) (other : ℕ) (small : other < 2 ^ 32) (writer-small : writer < 2 ^ 32) (apart : other ≢ writer) where
@@ -88,25 +87,25 @@ module _ {keys : List ℕ} (k : Keys keys) (lines a : ℕ) (is : lines ≡ 2 ^ a
             back : address_of keys (placed other) lines ≡ other
             back = subst (λ (n : ℕ). address_of keys (place_of keys other n) n ≡ other) (sym is) (recovered k a few other small)
 
-            is_named : (placed other).line ≡ (placed writer).line → (t : ℕ) → wrote.replaced ≡ Tag t → t ≡ (placed other).tag → 0 < named
+            is_named : (placed other).line ≡ (placed writer).line → (t : ℕ) → wrote.replaced ≡ Some t → t ≡ (placed other).tag → 0 < named
             is_named e t told same =
                 omega (
                   arith,
-                  ap (λ (r : Replaced). times_in other (named_by r)) told,
+                  ap (λ (r : Option ℕ). times_in other (named_by r)) told,
                   once_in other _ ((λ i. address_of keys (record { line = sym e i; tag = same i }) lines) ∙ back),
                 )
 
-            by_replaced : (placed other).line ≡ (placed writer).line → (r : Replaced) → wrote.replaced ≡ r → Kept (placed writer).line
-            by_replaced e Nothing told =
+            by_replaced : (placed other).line ≡ (placed writer).line → (r : Option ℕ) → wrote.replaced ≡ r → Kept (placed writer).line
+            by_replaced e None told =
                 inl (others_keep (placed writer).line (placed writer).tag count tags counts (placed other).tag (tags_apart e) (λ q. nothing_is_no_tag (sym told ∙ q)))
-            by_replaced e (Tag t) told = by_tag (ℕ_discrete t (placed other).tag)
+            by_replaced e (Some t) told = by_tag (ℕ_discrete t (placed other).tag)
               where
-                same_tag : {x y : ℕ} → Tag x ≡ Tag y → x ≡ y
+                same_tag : {x y : ℕ} → Some x ≡ Some y → x ≡ y
                 same_tag q = cc
 
                 by_tag : Dec (t ≡ (placed other).tag) → Kept (placed writer).line
                 by_tag (yes same) =
-                    inr (is_named e t told same, gone_after tags counts once (placed writer).line (placed writer).tag count (placed other).tag (told ∙ ap Tag same))
+                    inr (is_named e t told same, gone_after tags counts once (placed writer).line (placed writer).tag count (placed other).tag (told ∙ ap Some same))
                 by_tag (no ne) =
                     inl (others_keep (placed writer).line (placed writer).tag count tags counts (placed other).tag (tags_apart e) (λ q. ne (same_tag (sym told ∙ q))))
 

@@ -18,8 +18,7 @@ use Rattle.laws.proofs.Signed.{by_smallness}
 use Rattle.laws.proofs.Tests.{Which, below, above, which, or_left, or_right, cond_at}
 use Rattle.entries.specs.declared.Room.{Room}
 use Rattle.entries.specs.Entries.{line_of, lacks_line, own_way, empty_way, smallest_way, room_of, room_for, written_of, written}
-use Rattle.entries.specs.declared.Replaced.TheVariants.{Nothing, Tag}
-use Rattle.entries.specs.declared.Replaced.{Replaced}
+use Rattle.std.specs.Prelude.{Option, Some, None}
 
 -- ---- the smallest count, lowest on a tie
 module _ (counts : List ℤ) where
@@ -41,25 +40,25 @@ module _ (counts : List ℤ) where
 
 -- ---- where there is room: three cases, by what the searches found
 module _ (tag : ℕ) (tags : List ℕ) (counts : List ℤ) where
-  pub room_own : (own : ℕ) → own ≡ own_way tag tags counts → own < 4 → room_of own Nothing ≡ room_for tag tags counts
+  pub room_own : (own : ℕ) → own ≡ own_way tag tags counts → own < 4 → room_of own None ≡ room_for tag tags counts
   unfolding room_for
   room_own own e h = rw (← e) (sym (cond_at _ _ (lt-ltb own 4 h)))
 
   pub room_empty : (own empty : ℕ) → own ≡ own_way tag tags counts → 4 ≤ own → empty ≡ empty_way counts → empty < 4
-      → room_of empty Nothing ≡ room_for tag tags counts
+      → room_of empty None ≡ room_for tag tags counts
   unfolding room_for
   room_empty own empty e h q k = rw (← e, ← q) (sym (cond_at _ _ (le-ltb own 4 h) ∙ cond_at _ _ (lt-ltb empty 4 k)))
 
   pub room_smallest : (own empty smallest : ℕ) → own ≡ own_way tag tags counts → 4 ≤ own → empty ≡ empty_way counts → 4 ≤ empty
-      → smallest ≡ smallest_way counts → room_of smallest (Tag (get_or tags smallest 0)) ≡ room_for tag tags counts
+      → smallest ≡ smallest_way counts → room_of smallest (Some (get_or tags smallest 0)) ≡ room_for tag tags counts
   unfolding room_for
   room_smallest own empty smallest e h q k s = rw (← e, ← q, ← s) (sym (cond_at _ _ (le-ltb own 4 h) ∙ cond_at _ _ (le-ltb empty 4 k)))
 
   -- so what holds of the three holds of the room
   pub room_cases : (P : Room → Type 0)
-      → (own_way tag tags counts < 4 → P (room_of (own_way tag tags counts) Nothing))
-      → (4 ≤ own_way tag tags counts → empty_way counts < 4 → P (room_of (empty_way counts) Nothing))
-      → (4 ≤ own_way tag tags counts → 4 ≤ empty_way counts → P (room_of (smallest_way counts) (Tag (get_or tags (smallest_way counts) 0))))
+      → (own_way tag tags counts < 4 → P (room_of (own_way tag tags counts) None))
+      → (4 ≤ own_way tag tags counts → empty_way counts < 4 → P (room_of (empty_way counts) None))
+      → (4 ≤ own_way tag tags counts → 4 ≤ empty_way counts → P (room_of (smallest_way counts) (Some (get_or tags (smallest_way counts) 0))))
       → P (room_for tag tags counts)
   room_cases P own empty smallest = first (which (own_way tag tags counts) 4)
     where
@@ -111,7 +110,7 @@ module _ (line tag : ℕ) (count : ℤ) (tags : List ℕ) (counts : List ℤ) wh
   abbrev here : Room
   here = room_for tag (lent line tags) (lent line counts)
 
-  pub line_written : (r : Replaced) (ts : List ℕ) (cs : List ℤ) → lacks_line line (length tags) (length counts) ≡ false
+  pub line_written : (r : Option ℕ) (ts : List ℕ) (cs : List ℤ) → lacks_line line (length tags) (length counts) ≡ false
       → (r ≡ here.replaced) × (ts ≡ set (lent line tags) here.way tag) × (cs ≡ set (lent line counts) here.way count)
       → written_of r (given_back line tags ts) (given_back line counts cs) ≡ written line tag count tags counts
   unfolding written

@@ -20,7 +20,7 @@ use Rattle.entries.proofs.Lines.{smallest_lt, room_cases, has_line}
 use Rattle.entries.proofs.Readback.{before_own, before_empty, before_room, set_here, set_there, own_line, nothing_is_no_tag, after, room, low, within, cases, same_lines, other_line, replaced_in}
 use Rattle.entries.proofs.Decay.{in_line, same_empty, at, same_own}
 use Rattle.entries.specs.Entries.{line_of, lacks_line, is_own, own_way, smallest_way, count_in, count_of, room_for}
-use Rattle.entries.specs.declared.Replaced.TheVariants.{Tag}
+use Rattle.std.specs.Prelude.{Some}
 
 -- ---- in a line: an entry that is a tag's is the first that is
 abbrev pub OnceIn : List ℕ → List ℤ → Type 0
@@ -93,14 +93,14 @@ module _ (tags : List ℕ) (counts : List ℤ) (once : OnceIn tags counts) (tag 
         nowhere = first_none 4 (is_own t tags' counts') (λ i k. none i k (ℕ_discrete i way))
 
 -- the tag that the room tells as replaced had its entry there
-stood : (tag : ℕ) (tags : List ℕ) (counts : List ℤ) (t : ℕ) → (room_for tag tags counts).replaced ≡ Tag t → is_own t tags counts (room_for tag tags counts).way ≡ true
+stood : (tag : ℕ) (tags : List ℕ) (counts : List ℤ) (t : ℕ) → (room_for tag tags counts).replaced ≡ Some t → is_own t tags counts (room_for tag tags counts).way ≡ true
 stood tag tags counts t =
-    room_cases tag tags counts (λ r. r.replaced ≡ Tag t → is_own t tags counts r.way ≡ true)
+    room_cases tag tags counts (λ r. r.replaced ≡ Some t → is_own t tags counts r.way ≡ true)
     (λ h told. absurd (nothing_is_no_tag told))
     (λ h k told. absurd (nothing_is_no_tag told))
     (λ h k told. and_yes (ap not (before_empty tag tags counts (smallest_way counts) (omega (arith, smallest_lt counts)))) (eq-eqb _ _ (tag_of told)))
   where
-    tag_of : {a b : ℕ} → Tag a ≡ Tag b → a ≡ b
+    tag_of : {a b : ℕ} → Some a ≡ Some b → a ≡ b
     tag_of e = cc
 
 -- ---- in the table
@@ -140,7 +140,7 @@ module _ (tags : List ℕ) (counts : List ℤ) (once : Once tags counts) where
     once_after = cases line tag count tags counts (λ w. Once w.tags w.counts) once once_there
 
     -- what it replaced is gone
-    gone_there : (t : ℕ) → lacks_line line (length tags) (length counts) ≡ false → (room line tag count tags counts).replaced ≡ Tag t
+    gone_there : (t : ℕ) → lacks_line line (length tags) (length counts) ≡ false → (room line tag count tags counts).replaced ≡ Some t
         → count_of line t (set tags place tag) (set counts place count) ≡ pos 0
     unfolding count_of
     gone_there t e told =
@@ -150,10 +150,10 @@ module _ (tags : List ℕ) (counts : List ℤ) (once : Once tags counts) where
         ∙ gone (line_of line tags) (line_of line counts) (once line e) tag count inside.0 inside.1 t
         (replaced_in tag (line_of line tags) (line_of line counts) t told) (stood tag (line_of line tags) (line_of line counts) t told) small)
 
-    pub gone_after : (t : ℕ) → (after line tag count tags counts).replaced ≡ Tag t
+    pub gone_after : (t : ℕ) → (after line tag count tags counts).replaced ≡ Some t
         → count_of line t (after line tag count tags counts).tags (after line tag count tags counts).counts ≡ pos 0
     gone_after t =
-        cases line tag count tags counts (λ w. w.replaced ≡ Tag t → count_of line t w.tags w.counts ≡ pos 0)
+        cases line tag count tags counts (λ w. w.replaced ≡ Some t → count_of line t w.tags w.counts ≡ pos 0)
         (λ told. absurd (nothing_is_no_tag told))
         (gone_there t)
 

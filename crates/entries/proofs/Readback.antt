@@ -20,20 +20,19 @@ use Rattle.laws.specs.Search.{first_below}
 use Rattle.counts.specs.Counts.{is_empty}
 use Rattle.entries.proofs.Lines.{smallest_lt, room_cases, room_lt, has_line, line_length}
 use Rattle.entries.specs.Entries.{line_of, lacks_line, is_own, own_way, empty_way, smallest_way, count_in, count_of, room_for, Written, written_of, written}
-use Rattle.entries.specs.declared.Replaced.{Replaced}
-use Rattle.entries.specs.declared.Replaced.TheVariants.{Nothing, Tag}
+use Rattle.std.specs.Prelude.{Option, Some, None}
 use Rattle.entries.specs.declared.Room.{Room}
 
 -- ---- what is told
-abbrev tag_told : Replaced → ℕ
-tag_told Nothing = 0
-tag_told (Tag t) = t
+abbrev tag_told : Option ℕ → ℕ
+tag_told None = 0
+tag_told (Some t) = t
 
-abbrev is_told : Replaced → Bool
-is_told Nothing = false
-is_told (Tag t) = true
+abbrev is_told : Option ℕ → Bool
+is_told None = false
+is_told (Some t) = true
 
-pub nothing_is_no_tag : {t : ℕ} → Nothing ≡ Tag t → ⊥
+pub nothing_is_no_tag : {t : ℕ} → None ≡ Some t → ⊥
 nothing_is_no_tag e = true_is_not_false refl (ap is_told (sym e))
 
 -- ---- in a line
@@ -79,12 +78,12 @@ module _ (tag : ℕ) (tags : List ℕ) (counts : List ℤ) where
   before_empty j l = (first_is 4 (λ way. is_empty (get_or counts way (pos 0)))).before j l
 
   -- what stands in the room is no other tag's entry, or that tag is told as replaced
-  in_room : (t : ℕ) → t ≢ tag → ((room_for tag tags counts).replaced ≡ Tag t → ⊥) → is_own t tags counts (room_for tag tags counts).way ≡ false
+  in_room : (t : ℕ) → t ≢ tag → ((room_for tag tags counts).replaced ≡ Some t → ⊥) → is_own t tags counts (room_for tag tags counts).way ≡ false
   in_room t ne =
-      room_cases tag tags counts (λ r. (r.replaced ≡ Tag t → ⊥) → is_own t tags counts r.way ≡ false)
+      room_cases tag tags counts (λ r. (r.replaced ≡ Some t → ⊥) → is_own t tags counts r.way ≡ false)
       (λ h told. other_tag t _ (λ e. ne (sym e ∙ own_tag h)))
       (λ h k told. no_entry t _ (at_empty k))
-      (λ h k told. other_tag t _ (λ e. told (ap Tag e)))
+      (λ h k told. other_tag t _ (λ e. told (ap Some e)))
 
   -- a full way with the tag would be its own entry
   no_own : 4 ≤ own_way tag tags counts → 4 ≤ empty_way counts → (way : ℕ) → way < 4 → get_or tags way 0 ≢ tag
@@ -93,9 +92,9 @@ module _ (tag : ℕ) (tags : List ℕ) (counts : List ℤ) where
       true_is_not_false (λ i. not (full i) && eq-eqb (get_or tags way 0) tag e i) (before_own way (omega arith))
 
   -- so the tag that is replaced is another
-  pub replaced_in : (t : ℕ) → (room_for tag tags counts).replaced ≡ Tag t → t ≢ tag
+  pub replaced_in : (t : ℕ) → (room_for tag tags counts).replaced ≡ Some t → t ≢ tag
   replaced_in t =
-      room_cases tag tags counts (λ r. r.replaced ≡ Tag t → t ≢ tag)
+      room_cases tag tags counts (λ r. r.replaced ≡ Some t → t ≢ tag)
       (λ h told. absurd (nothing_is_no_tag told))
       (λ h k told. absurd (nothing_is_no_tag told))
       (λ h k told same. no_own h k (smallest_way counts) (smallest_lt counts) (ap tag_told told ∙ same))
@@ -181,7 +180,7 @@ module _ (line tag : ℕ) (count : ℤ) (tags : List ℕ) (counts : List ℤ) wh
   low = room_lt tag (line_of line tags) (line_of line counts)
 
   -- a line that is not there: nothing is written
-  nothing : lacks_line line (length tags) (length counts) ≡ true → after ≡ written_of Nothing tags counts
+  nothing : lacks_line line (length tags) (length counts) ≡ true → after ≡ written_of None tags counts
   unfolding written
   nothing e = cond_at _ _ e
 
@@ -192,7 +191,7 @@ module _ (line tag : ℕ) (count : ℤ) (tags : List ℕ) (counts : List ℤ) wh
   something e = cond_at _ _ e
 
   -- so what holds of both holds of what a write leaves
-  pub cases : (P : Written → Type 0) → P (written_of Nothing tags counts)
+  pub cases : (P : Written → Type 0) → P (written_of None tags counts)
       → (lacks_line line (length tags) (length counts) ≡ false → P (written_of room.replaced (set tags (4 * line + room.way) tag) (set counts (4 * line + room.way) count)))
       → P after
   cases P none some = go (lacks_line line (length tags) (length counts)) refl
@@ -216,7 +215,7 @@ module _ (line tag : ℕ) (count : ℤ) (tags : List ℕ) (counts : List ℤ) wh
       ∙ own_read (line_of line tags) (line_of line counts) room.way tag count (within e).0 (within e).1 low
       (before_room tag (line_of line tags) (line_of line counts)) full)
 
-  kept : (t : ℕ) → t ≢ tag → lacks_line line (length tags) (length counts) ≡ false → (room.replaced ≡ Tag t → ⊥)
+  kept : (t : ℕ) → t ≢ tag → lacks_line line (length tags) (length counts) ≡ false → (room.replaced ≡ Some t → ⊥)
       → count_of line t (set tags (4 * line + room.way) tag) (set counts (4 * line + room.way) count) ≡ count_of line t tags counts
   unfolding count_of
   kept t ne e told =
@@ -226,16 +225,16 @@ module _ (line tag : ℕ) (count : ℤ) (tags : List ℕ) (counts : List ℤ) wh
       (in_room tag (line_of line tags) (line_of line counts) t ne told) i))
 
   -- any other tag of the line keeps its count unless it was the one replaced
-  pub others_keep : (t : ℕ) → t ≢ tag → (after.replaced ≡ Tag t → ⊥) → count_of line t after.tags after.counts ≡ count_of line t tags counts
+  pub others_keep : (t : ℕ) → t ≢ tag → (after.replaced ≡ Some t → ⊥) → count_of line t after.tags after.counts ≡ count_of line t tags counts
   others_keep t ne =
-      cases (λ w. (w.replaced ≡ Tag t → ⊥) → count_of line t w.tags w.counts ≡ count_of line t tags counts)
+      cases (λ w. (w.replaced ≡ Some t → ⊥) → count_of line t w.tags w.counts ≡ count_of line t tags counts)
       (λ told. refl)
       (λ e told. kept t ne e told)
 
   -- the tag told as replaced is never the one that was written
-  pub replaced_is_another : (t : ℕ) → after.replaced ≡ Tag t → t ≢ tag
+  pub replaced_is_another : (t : ℕ) → after.replaced ≡ Some t → t ≢ tag
   replaced_is_another t =
-      cases (λ w. w.replaced ≡ Tag t → t ≢ tag)
+      cases (λ w. w.replaced ≡ Some t → t ≢ tag)
       (λ told. absurd (nothing_is_no_tag told))
       (λ e told. replaced_in tag (line_of line tags) (line_of line counts) t told)
 

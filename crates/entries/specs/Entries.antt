@@ -1,12 +1,10 @@
 -- Document 01, "Records" and "Verdicts": the entries of the address table. Which entry is an address's, what its count is, and where
 -- it is written.
 -- Assumes nothing.
-use Rattle.std.specs.Prelude.{Bool, not, ◌&&◌, ◌||◌, cond, List, ℕ, ◌+◌, ◌*◌, eqb, ltb, ℤ, pos, length, get_or, set, take, drop}
+use Rattle.std.specs.Prelude.{Bool, not, ◌&&◌, ◌||◌, cond, List, ℕ, ◌+◌, ◌*◌, eqb, ltb, ℤ, pos, length, get_or, set, take, drop, Option, Some, None}
 use Rattle.std.specs.Int.Signed.{le_z}
 use Rattle.laws.specs.Search.{every, first_below}
 use Rattle.counts.specs.Counts.{is_empty}
-use Rattle.entries.specs.declared.Replaced.{Replaced}
-use Rattle.entries.specs.declared.Replaced.TheVariants.{Nothing, Tag}
 use Rattle.entries.specs.declared.Room.{Room}
 
 -- a line's part of the list of tags or of counts: "four entries each"
@@ -40,7 +38,7 @@ unfoldable pub smallest_way : List ℤ → ℕ
 smallest_way counts = first_below 4 (λ way. every 4 (λ other. le_z (get_or counts way (pos 0)) (get_or counts other (pos 0))))
 
 -- a way, and the tag that is replaced there
-abbrev pub room_of : ℕ → Replaced → Room
+abbrev pub room_of : ℕ → Option ℕ → Room
 room_of way replaced = record { way = way; replaced = replaced }
 
 -- where a tag's entry is written, and which tag that replaces: its own entry is overwritten; "An absent address takes the lowest empty
@@ -48,10 +46,10 @@ room_of way replaced = record { way = way; replaced = replaced }
 unfoldable pub room_for : ℕ → List ℕ → List ℤ → Room
 room_for tag tags counts =
     cond (ltb (own_way tag tags counts) 4)
-    (room_of (own_way tag tags counts) Nothing)
+    (room_of (own_way tag tags counts) None)
     (cond (ltb (empty_way counts) 4)
-    (room_of (empty_way counts) Nothing)
-    (room_of (smallest_way counts) (Tag (get_or tags (smallest_way counts) 0))))
+    (room_of (empty_way counts) None)
+    (room_of (smallest_way counts) (Some (get_or tags (smallest_way counts) 0))))
 
 -- ---- in the table
 -- an address's count, by its line and tag
@@ -60,18 +58,18 @@ count_of line tag tags counts = cond (lacks_line line (length tags) (length coun
 
 -- what a write leaves: the tag that it replaced, and both lists
 pub record Written : Type 0 where
-  pub replaced : Replaced
+  pub replaced : Option ℕ
   pub tags : List ℕ
   pub counts : List ℤ
 
-abbrev pub written_of : Replaced → List ℕ → List ℤ → Written
+abbrev pub written_of : Option ℕ → List ℕ → List ℤ → Written
 written_of replaced tags counts = record { replaced = replaced; tags = tags; counts = counts }
 
 -- an address's entry written: one tag and one count of the table, and no other number
 unfoldable pub written : ℕ → ℕ → ℤ → List ℕ → List ℤ → Written
 written line tag count tags counts =
     cond (lacks_line line (length tags) (length counts))
-    (written_of Nothing tags counts)
+    (written_of None tags counts)
     (written_of room.replaced (set tags (4 * line + room.way) tag) (set counts (4 * line + room.way) count))
   where
     room : Room

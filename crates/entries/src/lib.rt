@@ -4,18 +4,11 @@
 ghost use Rattle.std.specs.Prelude.{◌≡◌, length, set};
 ghost use Rattle.entries.specs.Entries.{lacks_line, own_way, empty_way, smallest_way, room_for, count_in, count_of, written_of, written};
 
-// What a write pushed out of its line.
-#[derive(Clone, Copy)]
-pub enum Replaced {
-    Nothing,
-    Tag(u32),
-}
-
-// The way that a write takes, and what it replaces there.
+// The way that a write takes, and the tag that it replaces there, if any.
 #[derive(Clone, Copy)]
 struct Room {
     way: usize,
-    replaced: Replaced,
+    replaced: Option<u32>,
 }
 
 // The way of the first non-empty entry with this tag, or 4.
@@ -74,20 +67,20 @@ fn room_for(tags: &[u32], counts: &[i16], tag: u32) -> Room
     if own < 4 {
         return Room {
             way: own,
-            replaced: Replaced::Nothing,
+            replaced: None,
         };
     }
     let empty = empty_way(counts);
     if empty < 4 {
         return Room {
             way: empty,
-            replaced: Replaced::Nothing,
+            replaced: None,
         };
     }
     let smallest = smallest_way(counts);
     Room {
         way: smallest,
-        replaced: Replaced::Tag(tags[smallest]),
+        replaced: Some(tags[smallest]),
     }
 }
 
@@ -123,7 +116,7 @@ pub fn count_of(tags: &[u32], counts: &[i16], line: u32, tag: u32) -> i16
 }
 
 // Writes a tag's entry in the line that is lent: four tags and four counts.
-fn write_entry(tags: &mut [u32], counts: &mut [i16], tag: u32, count: i16) -> Replaced
+fn write_entry(tags: &mut [u32], counts: &mut [i16], tag: u32, count: i16) -> Option<u32>
     requires { (length tags.old ≡ 4) × (length counts.old ≡ 4) }
     ensures { (result ≡ (room_for tag tags.old counts.old).replaced)
         × (tags.new ≡ set tags.old (room_for tag tags.old counts.old).way tag)
@@ -138,11 +131,11 @@ fn write_entry(tags: &mut [u32], counts: &mut [i16], tag: u32, count: i16) -> Re
 
 // Writes a tag's entry in a line of the table, and answers the tag that lost its entry, if one did. The other lines are out of the
 // writer's reach; where the table has no such line, nothing is written.
-pub fn write(tags: &mut [u32], counts: &mut [i16], line: u32, tag: u32, count: i16) -> Replaced
+pub fn write(tags: &mut [u32], counts: &mut [i16], line: u32, tag: u32, count: i16) -> Option<u32>
     ensures { written_of result tags.new counts.new ≡ written line tag count tags.old counts.old }
 {
     if lacks_line(tags.len(), counts.len(), line) {
-        return Replaced::Nothing;
+        return None;
     }
     let at = 4 * (line as usize);
     write_entry(&mut tags[at..at + 4], &mut counts[at..at + 4], tag, count)

@@ -32,8 +32,7 @@ use Rattle.packet.specs.Kinds.{ported}
 use Rattle.records.specs.Records.{marks_of, is_unmarked}
 use Rattle.counts.specs.Counts.{larger, smaller, lowered_by, raised_by, decayed_by}
 use Rattle.counts.proofs.Counts.{fell}
-use Rattle.entries.specs.declared.Replaced.{Replaced}
-use Rattle.entries.specs.declared.Replaced.TheVariants as replaced
+use Rattle.std.specs.Prelude.{Option, Some, None}
 use Rattle.entries.specs.Entries.{line_of, lacks_line, own_way, count_in, count_of, Written, written_of, written}
 use Rattle.entries.proofs.Readback.{cases}
 use Rattle.tables.specs.Tables.{Tables}
@@ -175,18 +174,18 @@ module _ (limits : Limits) (floor_short : Short limits.floor) where
   entered_short place ruling tags counts c all = go ruling.writes
     where
       go : (writes : Bool)
-          → All Short (cond writes (written place.line place.tag ruling.count tags counts) (written_of replaced.Nothing tags counts)).counts
+          → All Short (cond writes (written place.line place.tag ruling.count tags counts) (written_of None tags counts)).counts
       go true =
           cases place.line place.tag ruling.count tags counts (λ (w : Written). All Short w.counts) all
           (λ e. all_set Short counts ruling.count all c _)
       go false = all
 
   -- an address that is recovered has 32 bits
-  judged_short : (keys : List ℕ) (lines line : ℕ) (gone : Replaced) (verdict : Verdict) (count : ℤ) → Short count
+  judged_short : (keys : List ℕ) (lines line : ℕ) (gone : Option ℕ) (verdict : Verdict) (count : ℤ) → Short count
       → InRange (answer.Judged verdict count (replacement_of keys lines line gone))
   unfolding address_of
-  judged_short keys lines line replaced.Nothing verdict count c = c
-  judged_short keys lines line (replaced.Tag tag) verdict count c = (c, D-lt keys _ (omega arith))
+  judged_short keys lines line None verdict count c = c
+  judged_short keys lines line (Some tag) verdict count c = (c, D-lt keys _ (omega arith))
 
   pub record Ranged (after : After Answer) : Type 0 where
     pub in_its_range : InRange after.answer

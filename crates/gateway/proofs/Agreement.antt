@@ -23,7 +23,7 @@ use Rattle.records.specs.declared.Marks.{Marks}
 use Rattle.records.specs.Records.{plant_seen, cell_seen}
 use Rattle.tables.specs.Tables.{Tables}
 use Rattle.entries.specs.Entries.{Written, written, written_of}
-use Rattle.entries.specs.declared.Replaced.TheVariants.{Nothing}
+use Rattle.std.specs.Prelude.{None}
 use Rattle.verdicts.specs.declared.Verdict.{Verdict}
 use Rattle.verdicts.specs.declared.Verdict.TheVariants.{Uncounted, CreditOfOne, CreditOfTwo, FreshContact, Hygiene, Blocked}
 use Rattle.verdicts.specs.Verdicts.{number_of, is_forwarded, is_closing, from_the_plant, verdict_of}
@@ -36,7 +36,7 @@ use Rattle.reasons.specs.declared.Explanation.TheVariants as why
 use Rattle.rulings.specs.declared.Ruling.{Ruling}
 use Rattle.rulings.specs.declared.answers.Answer.{Answer}
 use Rattle.rulings.specs.declared.answers.Answer.TheVariants as answer
-use Rattle.rulings.specs.declared.answers.Replacement.TheVariants.{None}
+use Rattle.rulings.specs.declared.answers.Replacement.TheVariants as replacement
 use Rattle.rulings.specs.Answers.{refusal_told, verdict_told, count_told, address_told, replaced_told}
 use Rattle.rulings.specs.Rules.{slot_rule, rules_of}
 use Rattle.rulings.specs.Rulings.{verdict_by, ruling_of}
@@ -92,10 +92,10 @@ module _ (limits : Limits) (cell plant : List ℕ) where
         }
       where
         replaced_by : ruling.writes ≡ false
-            → replacement_of placing.keys spot.lines spot.place.line (entered spot.place ruling tables.tags tables.counts).replaced ≡ None
+            → replacement_of placing.keys spot.lines spot.place.line (entered spot.place ruling tables.tags tables.counts).replaced ≡ replacement.None
         replaced_by w =
             ap (λ (x : Written). replacement_of placing.keys spot.lines spot.place.line x.replaced)
-            (ap (λ (t : Bool). cond t (written spot.place.line spot.place.tag ruling.count tables.tags tables.counts) (written_of Nothing tables.tags tables.counts)) w)
+            (ap (λ (t : Bool). cond t (written spot.place.line spot.place.tag ruling.count tables.tags tables.counts) (written_of None tables.tags tables.counts)) w)
 
   ours_agree : (placing : Placing) (h : Header) (from_plant : Bool) (tables : Tables)
       → Agrees (why_ours (rules_of limits) placing cell plant h from_plant tables) (ours (rules_of limits) placing h from_plant tables).answer

@@ -18,7 +18,7 @@ use Rattle.packet.specs.Header.{header_refusal, header_of, answered, read_of, re
 use Rattle.sides.specs.declared.Direction.{Direction}
 use Rattle.sides.specs.declared.Direction.TheVariants.{FromCell, FromPlant, NotOurs}
 use Rattle.places.proofs.Places.{slot_lt}
-use Rattle.entries.specs.declared.Replaced.{Replaced}
+use Rattle.std.specs.Prelude.{Option}
 use Rattle.entries.specs.Entries.{Written, written_of}
 use Rattle.tables.specs.Sizes.{bad_sizes}
 use Rattle.tables.proofs.Powers.{sized}
@@ -62,7 +62,7 @@ module _ (rules : Rules) (placing : Placing) (h : Header) (before : Tables) wher
   not_ours FromPlant e t = true_is_not_false e t
   not_ours NotOurs e t = refl
 
-pub settled_as : (keys : List ℕ) (spot : Spot) (ruling : Ruling) (records tags : List ℕ) (counts : List ℤ) {replaced : Replaced} {replacement : Replacement} {tags' : List ℕ} {counts' : List ℤ}
+pub settled_as : (keys : List ℕ) (spot : Spot) (ruling : Ruling) (records tags : List ℕ) (counts : List ℤ) {replaced : Option ℕ} {replacement : Replacement} {tags' : List ℕ} {counts' : List ℤ}
     → written_of replaced tags' counts' ≡ entered spot.place ruling tags counts
     → replacement ≡ replacement_of keys spot.lines spot.place.line replaced
     → outcome_of (Judged ruling.verdict ruling.count replacement) (tables_of (set records spot.slot ruling.byte) tags' counts')

@@ -1,6 +1,6 @@
 -- Document 01, "Verdicts": what a packet that is not refused gets of the tables, and what it makes of them.
 -- Assumes nothing.
-use Rattle.std.specs.Prelude.{Bool, true, false, cond, List, ℕ, ◌/◌, ℤ, length, get_or, set}
+use Rattle.std.specs.Prelude.{Bool, true, false, cond, List, ℕ, ◌/◌, ℤ, length, get_or, set, Option, Some, None}
 use Rattle.packet.specs.declared.Header.{Header}
 use Rattle.sides.specs.declared.Direction.{Direction}
 use Rattle.sides.specs.declared.Direction.TheVariants.{FromCell, FromPlant, NotOurs}
@@ -8,13 +8,11 @@ use Rattle.sides.specs.Lists.{direction_between}
 use Rattle.places.specs.declared.Place.{Place}
 use Rattle.places.specs.declared.Placing.{Placing}
 use Rattle.places.specs.Places.{place_of, address_of}
-use Rattle.entries.specs.declared.Replaced.{Replaced}
-use Rattle.entries.specs.declared.Replaced.TheVariants.{Nothing, Tag}
 use Rattle.entries.specs.Entries.{count_of, Written, written_of, written}
 use Rattle.tables.specs.Tables.{Tables, tables_of}
 use Rattle.rulings.specs.declared.Ruling.{Ruling}
 use Rattle.rulings.specs.declared.answers.Replacement.{Replacement}
-use Rattle.rulings.specs.declared.answers.Replacement.TheVariants.{None, Address}
+use Rattle.rulings.specs.declared.answers.Replacement.TheVariants as replacement
 use Rattle.rulings.specs.declared.answers.Answer.{Answer}
 use Rattle.rulings.specs.declared.answers.Answer.TheVariants as answer
 use Rattle.rulings.specs.Rules.{SlotRule, Rules, cell_of}
@@ -55,12 +53,12 @@ abbrev pub entered : Place → Ruling → List ℕ → List ℤ → Written
 entered place ruling tags counts =
     cond ruling.writes
     (written place.line place.tag ruling.count tags counts)
-    (written_of Nothing tags counts)
+    (written_of None tags counts)
 
 -- "the replaced address, if any, recovered by the inverse from line and tag": by the keys, the number of lines and the line
-abbrev pub replacement_of : List ℕ → ℕ → ℕ → Replaced → Replacement
-replacement_of keys lines line Nothing = None
-replacement_of keys lines line (Tag tag) = Address (address_of keys (record { line = line; tag = tag }) lines)
+abbrev pub replacement_of : List ℕ → ℕ → ℕ → Option ℕ → Replacement
+replacement_of keys lines line None = replacement.None
+replacement_of keys lines line (Some tag) = replacement.Address (address_of keys (record { line = line; tag = tag }) lines)
 
 -- what the ruling makes of the tables. "The answer holds the verdict, the address's count after it, and the replaced address, if any"
 abbrev pub settled : List ℕ → Spot → Ruling → Tables → Outcome

@@ -13,7 +13,6 @@ ghost use Rattle.gateway.specs.Packets.{outcome_of, replacement_of, entered, spo
 ghost use Rattle.gateway.specs.Calls.{state_of, lent, left, no_placing, tables_at, started, passed, accepted, judged};
 ghost use Rattle.gateway.specs.Why.{met_in, drop_of, why_met, why_ours, why_by_direction, why_of};
 
-use entries::Replaced;
 use packet::{Header, Reading};
 use places::{Place, Placing};
 use reasons::{Drop, Explanation};
@@ -182,22 +181,22 @@ fn ruling_at(
 }
 
 // Writes the cell address's entry where the ruling says so.
-fn enter(tags: &mut [u32], counts: &mut [i16], place: Place, ruling: Ruling) -> Replaced
+fn enter(tags: &mut [u32], counts: &mut [i16], place: Place, ruling: Ruling) -> Option<u32>
     ensures { written_of result tags.new counts.new ≡ entered place ruling tags.old counts.old }
 {
     if ruling.writes {
         return entries::write(tags, counts, place.line, place.tag, ruling.count);
     }
-    Replaced::Nothing
+    None
 }
 
 // The address whose entry a write replaced, from its line and tag.
-fn replacement_of(keys: &[u32; 8], lines: u32, line: u32, replaced: Replaced) -> Replacement
+fn replacement_of(keys: &[u32; 8], lines: u32, line: u32, replaced: Option<u32>) -> Replacement
     ensures { result ≡ replacement_of keys.now lines line replaced }
 {
     match replaced {
-        Replaced::Nothing => Replacement::None,
-        Replaced::Tag(tag) => Replacement::Address(places::address_of(
+        None => Replacement::None,
+        Some(tag) => Replacement::Address(places::address_of(
             keys,
             Place { line, tag },
             lines,

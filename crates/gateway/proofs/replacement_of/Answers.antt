@@ -4,5 +4,5 @@ use mathlib.Core.Path.{ap}
 use Rattle.rulings.specs.declared.answers.Replacement.TheVariants.{Address}
 use Rattle.gateway.proofs.replacement_of.Goals as goal
 
-pub returns-in-Tag : goal.returns-in-Tag
-returns-in-Tag c = rw c.in-Tag.is (ap Address c.address_of.ensures)
+pub returns-in-Some : goal.returns-in-Some
+returns-in-Some c = rw c.in-Some.is (ap Address c.address_of.ensures)
