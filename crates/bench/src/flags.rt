@@ -6,65 +6,40 @@
 // turns 128 to 191 in pairs, a packet of the plant's and the one that answers it, from a new machine each.
 use crate::packets;
 
-const SYN_FIN: u8 = packets::SYN + packets::FIN;
+const SYN_FIN: u8 = packets::SYN | packets::FIN;
 
 // New machines of the cell by number, scattered so that no two of them share a slot and no five a line.
 fn new_machine(number: u8) -> [u8; 4] {
     [10, number, number, number]
 }
 
-fn from_cell(machine: [u8; 4], flags: u8) -> [u8; 40] {
-    packets::packet(
-        packets::TCP,
-        machine,
-        packets::PLANT_HOST,
-        packets::PORTS,
-        flags,
-    )
-}
-
-fn from_plant(machine: [u8; 4], flags: u8) -> [u8; 40] {
-    packets::packet(
-        packets::TCP,
-        packets::PLANT_HOST,
-        machine,
-        packets::PORTS_BACK,
-        flags,
-    )
-}
-
 // A contact with a plant machine that says nothing.
 fn to_stranger(number: u8) -> [u8; 40] {
-    packets::packet(
-        packets::UDP,
-        packets::CELL_HOST,
-        [192, 168, 0, number],
-        packets::PORTS,
-        0,
-    )
+    packets::udp_to([192, 168, 0, number])
 }
 
 // What the plant sends at an even turn, and the new machine's answer at the odd one after it.
 fn spoken_or_answered(turn: u8) -> [u8; 40] {
-    let number = turn / 2;
+    let machine = new_machine(turn / 2);
     if turn % 2 == 0 {
-        return from_plant(new_machine(number), packets::ACK);
+        packets::tcp_from_plant(machine, packets::ACK)
+    } else {
+        packets::tcp_to_plant(machine, turn / 2 % 32)
     }
-    from_cell(new_machine(number), number % 32)
 }
 
 // The packet of a turn from 29 on. Where the flags go by turn, they are its low five bits, or in pairs those of its half.
 pub fn packet_of(turn: u8) -> [u8; 40] {
     let cell = packets::CELL_HOST;
     match turn {
-        29 => from_plant(cell, packets::SYN),
-        35 | 37 => from_cell(cell, SYN_FIN),
-        36 => from_cell(cell, packets::ACK),
-        56 => from_cell(cell, packets::SYN),
-        57 => from_plant(cell, packets::SYN + packets::ACK),
+        29 => packets::tcp_from_plant(cell, packets::SYN),
+        35 | 37 => packets::tcp_to_plant(cell, SYN_FIN),
+        36 => packets::tcp_to_plant(cell, packets::ACK),
+        56 => packets::tcp_to_plant(cell, packets::SYN),
+        57 => packets::tcp_from_plant(cell, packets::SYN | packets::ACK),
         30..=34 | 58..=63 => to_stranger(turn),
-        64..=95 => from_cell(cell, turn % 32),
-        96..=127 => from_cell(new_machine(turn), turn % 32),
+        64..=95 => packets::tcp_to_plant(cell, turn % 32),
+        96..=127 => packets::tcp_to_plant(new_machine(turn), turn % 32),
         _ => spoken_or_answered(turn),
     }
 }

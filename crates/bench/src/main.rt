@@ -5,8 +5,9 @@
 
 mod edges;
 mod flags;
+mod inputs;
+mod lent;
 mod lines;
-mod names;
 mod packets;
 mod pairs;
 mod session;

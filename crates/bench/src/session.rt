@@ -1,12 +1,15 @@
 // Six runs over 4,096 records and 256 lines, with the factory settings and a cold start at second 100. Turns 1 to 4 are document 01's
 // session. Turns 5 to 28 are the incident: twelve plant machines poll one cell machine, nothing is heard for two hours, and then it sweeps
 // all twelve. The others are those of `flags`.
-use crate::{flags, lines, packets};
+use crate::lent::Lent;
+use crate::lines::Told;
+use crate::{flags, packets};
 use places::Placing;
 use rulings::answers::Answer;
 use settings::Settings;
 use std::io;
 use std::io::Write;
+use std::ops::Range;
 use tally::Tally;
 
 const CELL_LIST: [u8; 5] = [10, 0, 0, 0, 8];
@@ -15,19 +18,11 @@ const PLANT_LIST: [u8; 5] = [192, 168, 0, 0, 16];
 
 fn packet_of(turn: u8) -> [u8; 40] {
     let cell = packets::CELL_HOST;
-    let plant = packets::PLANT_HOST;
-    let there = packets::PORTS;
     match turn {
-        1 => packets::packet(packets::TCP, cell, plant, there, packets::SYN),
-        2 => packets::packet(
-            packets::TCP,
-            plant,
-            cell,
-            packets::PORTS_BACK,
-            packets::SYN + packets::ACK,
-        ),
-        3 => packets::packet(packets::TCP, cell, plant, there, packets::ACK),
-        4 => packets::packet(packets::UDP, cell, [10, 0, 0, 2], there, 0),
+        1 => packets::tcp_to_plant(cell, packets::SYN),
+        2 => packets::tcp_from_plant(cell, packets::SYN | packets::ACK),
+        3 => packets::tcp_to_plant(cell, packets::ACK),
+        4 => packets::udp_to([10, 0, 0, 2]),
         5..=28 => poll_or_sweep(turn),
         _ => flags::packet_of(turn),
     }
@@ -37,15 +32,10 @@ fn packet_of(turn: u8) -> [u8; 40] {
 fn poll_or_sweep(turn: u8) -> [u8; 40] {
     let plant = [192, 168, 0, turn % 12 + 1];
     if turn <= 16 {
-        return packets::packet(
-            packets::UDP,
-            plant,
-            packets::CELL_HOST,
-            packets::PORTS_BACK,
-            0,
-        );
+        packets::udp_from(plant)
+    } else {
+        packets::udp_to(plant)
     }
-    packets::packet(packets::UDP, packets::CELL_HOST, plant, packets::PORTS, 0)
 }
 
 fn time_of(turn: u8) -> u32 {
@@ -55,109 +45,57 @@ fn time_of(turn: u8) -> u32 {
     }
 }
 
-fn judge(
-    placing: Placing,
-    turn: u8,
-    records: &mut [u8],
-    tags: &mut [u32],
-    counts: &mut [i16],
-    clock: &mut u32,
-) -> Answer {
-    let packet = packet_of(turn);
-    let set = Settings::factory();
-    gateway::judge(
+fn judge(lent: &mut Lent<'_>, placing: Placing, turn: u8) -> Answer {
+    lent.judge(
         placing,
         &CELL_LIST,
         &PLANT_LIST,
-        records,
-        tags,
-        counts,
-        clock,
-        set.limits,
+        Settings::factory().limits,
         time_of(turn),
-        &packet,
+        &packet_of(turn),
     )
 }
 
-fn print_turn<W: Write>(out: &mut W, turn: u8, answer: Answer) -> io::Result<()> {
-    lines::number(out, turn as u64)?;
-    lines::mark(out, b' ')?;
-    lines::answer(out, answer)?;
-    lines::mark(out, b'\n')
-}
-
-// The turns from one on, up to another that is not among them.
 fn judge_turns<W: Write>(
     out: &mut W,
+    lent: &mut Lent<'_>,
     placing: Placing,
-    from: u8,
-    to: u8,
-    records: &mut [u8],
-    tags: &mut [u32],
-    counts: &mut [i16],
-    clock: &mut u32,
+    turns: Range<u8>,
 ) -> io::Result<Tally> {
     let mut tally = Tally::empty();
-    for turn in from..to {
-        let answer = judge(placing, turn, records, tags, counts, clock);
-        print_turn(out, turn, answer)?;
+    for turn in turns {
+        let answer = judge(lent, placing, turn);
+        writeln!(out, "{turn} {}", Told::Packet(answer))?;
         tally = tally.with(answer);
     }
     Ok(tally)
 }
 
-fn print_total<W: Write>(out: &mut W, total: u32) -> io::Result<()> {
-    lines::mark(out, b' ')?;
-    lines::number(out, total as u64)
-}
-
-fn print_totals<W: Write>(out: &mut W, totals: [u32; 7]) -> io::Result<()> {
-    lines::text(out, b"tally")?;
-    print_total(out, totals[0])?;
-    print_total(out, totals[1])?;
-    print_total(out, totals[2])?;
-    print_total(out, totals[3])?;
-    print_total(out, totals[4])?;
-    print_total(out, totals[5])?;
-    print_total(out, totals[6])?;
-    lines::mark(out, b'\n')
+fn print_tally<W: Write>(out: &mut W, tally: Tally) -> io::Result<()> {
+    write!(out, "tally")?;
+    for total in tally.totals {
+        write!(out, " {total}")?;
+    }
+    writeln!(out)
 }
 
 // The tables hold other things before the cold start, so that it has work to do.
-fn run_turns<W: Write>(out: &mut W, from: u8, to: u8) -> io::Result<()> {
-    let mut records = [255u8; 4096];
-    let mut tags = [7u32; 1024];
-    let mut counts = [9i16; 1024];
-    let mut clock = 4000000000;
-    let started = gateway::cold_start(
-        Settings::factory(),
-        &mut records,
-        &mut tags,
-        &mut counts,
-        &mut clock,
-        100,
-    );
-    let placing = started.placing;
-    let tally = judge_turns(
-        out,
-        placing,
-        from,
-        to,
-        &mut records,
-        &mut tags,
-        &mut counts,
-        &mut clock,
-    )?;
-    let totals = tally.totals;
-    print_totals(out, totals)
+fn run_turns<W: Write>(out: &mut W, turns: Range<u8>) -> io::Result<()> {
+    let mut lent = Lent {
+        records: &mut [255; 4096],
+        tags: &mut [7; 1024],
+        counts: &mut [9; 1024],
+        clock: &mut 4000000000,
+    };
+    let started = lent.cold_start(Settings::factory(), 100);
+    let tally = judge_turns(out, &mut lent, started.placing, turns)?;
+    print_tally(out, tally)
 }
 
 // Prints document 01's session turn by turn, with the tally after it, then the two-hour incident, and the runs of `flags`.
 pub fn run<W: Write>(out: &mut W) -> io::Result<()> {
-    run_turns(out, 1, 5)?;
-    run_turns(out, 5, 29)?;
-    run_turns(out, 29, 38)?;
-    run_turns(out, 56, 96)?;
-    run_turns(out, 96, 128)?;
-    run_turns(out, 128, 192)
+    for turns in [1..5, 5..29, 29..38, 56..96, 96..128, 128..192] {
+        run_turns(out, turns)?;
+    }
+    Ok(())
 }
