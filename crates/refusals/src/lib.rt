@@ -1,25 +1,29 @@
-// The refusals 1 to 4: which number a call gives before any header is looked at, or 0.
+// The refusals 1 to 4: whether a call is refused before any header is looked at.
 #![tactic(auto)]
 
 ghost use Rattle.std.specs.Prelude.{◌≡◌};
+ghost use Rattle.refused.specs.Refused.{answer_unless};
 ghost use Rattle.refusals.specs.Refusals.{start_refusal, time_refusal, early_refusal};
 
+use refused::Refusal;
 use settings::Limits;
 
-// The refusal of a cold start: 1, 2, or 0 for none.
-pub fn of_start(limits: Limits, records: usize, tags: usize, counts: usize) -> u8
-    ensures { result ≡ start_refusal limits records tags counts }
+// Tests what a cold start is given: it is refused by 1 or 2.
+#[tactic(auto, unfolding(crate::specs::Refusals::start_refusal))]
+pub fn of_start(limits: Limits, records: usize, tags: usize, counts: usize) -> Result<(), Refusal>
+    ensures { result ≡ answer_unless (start_refusal limits records tags counts) tt }
 {
     if limits.is_bad() {
-        return 1;
+        return Err(Refusal::Settings);
     }
     if tables::sizes::bad_sizes(records, tags, counts) {
-        return 2;
+        return Err(Refusal::Sizes);
     }
-    0
+    Ok(())
 }
 
-// The refusal of a time alone: 1, 2, 4, or 0 for none.
+// Tests what a time alone is given: it is refused by 1, 2 or 4.
+#[tactic(auto, unfolding(crate::specs::Refusals::start_refusal, crate::specs::Refusals::time_refusal))]
 pub fn of_time(
     limits: Limits,
     records: usize,
@@ -27,20 +31,18 @@ pub fn of_time(
     counts: usize,
     clock: u32,
     time: u32,
-) -> u8
-    ensures { result ≡ time_refusal limits records tags counts clock time }
+) -> Result<(), Refusal>
+    ensures { result ≡ answer_unless (time_refusal limits records tags counts clock time) tt }
 {
-    let number = of_start(limits, records, tags, counts);
-    if number != 0 {
-        return number;
-    }
+    of_start(limits, records, tags, counts)?;
     if time < clock {
-        return 4;
+        return Err(Refusal::Time);
     }
-    0
+    Ok(())
 }
 
-// The refusal of a packet before its headers are looked at: 1 to 4, or 0 for none.
+// Tests what a packet is given, before its headers are looked at: it is refused by 1 to 4.
+#[tactic(auto, unfolding(crate::specs::Refusals::start_refusal, crate::specs::Refusals::early_refusal))]
 pub fn of_packet(
     limits: Limits,
     records: usize,
@@ -50,18 +52,19 @@ pub fn of_packet(
     plant: &[u8],
     clock: u32,
     time: u32,
-) -> u8
-    ensures { result ≡ early_refusal limits records tags counts cell.now plant.now clock time }
+) -> Result<(), Refusal>
+    ensures { result ≡ answer_unless (early_refusal limits records tags counts cell.now plant.now clock time) tt }
 {
-    let early = of_start(limits, records, tags, counts);
-    if early != 0 {
-        return early;
-    }
+    of_start(limits, records, tags, counts)?;
     if sides::bad_list(cell) {
-        return 3;
+        return Err(Refusal::Lists);
     }
     if sides::bad_list(plant) {
-        return 3;
+        return Err(Refusal::Lists);
     }
-    if clock <= time { 0 } else { 4 }
+    if clock <= time {
+        Ok(())
+    } else {
+        Err(Refusal::Time)
+    }
 }
