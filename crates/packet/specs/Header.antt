@@ -1,14 +1,15 @@
 -- Document 01, refusals 5 and 6 with the order of the header tests, and what reading answers. Places in the headers are those of
 -- RFC 791 (IPv4), RFC 9293 (TCP) and RFC 768 (UDP).
 -- Assumes nothing.
-use Rattle.std.specs.Prelude.{Bool, cond, not, ◌||◌, List, ℕ, zero, suc, ◌+◌, ◌*◌, ◌/◌, ◌%◌, min, eqb, ltb, length, get_or}
+use Rattle.std.specs.Prelude.{Bool, cond, not, ◌||◌, List, ℕ, ◌+◌, ◌*◌, ◌/◌, ◌%◌, min, eqb, ltb, length, get_or, Option, Some, None, Result}
+use Rattle.refused.specs.declared.Refusal.{Refusal}
+use Rattle.refused.specs.declared.Refusal.TheVariants as refusal
+use Rattle.refused.specs.Refused.{answer_unless}
 use Rattle.words.specs.Words.{two_at, four_at}
 use Rattle.packet.specs.declared.kinds.Kind.{Kind}
 use Rattle.packet.specs.declared.kinds.Kind.TheVariants.{Plain}
 use Rattle.packet.specs.declared.Transport.{Transport}
 use Rattle.packet.specs.declared.Header.{Header}
-use Rattle.packet.specs.declared.Reading.{Reading}
-use Rattle.packet.specs.declared.Reading.TheVariants.{Refused, Packet}
 use Rattle.packet.specs.Kinds.{udp, tcp, kind_of, ported}
 
 -- ---- the IP header of a packet's bytes
@@ -45,15 +46,14 @@ needed protocol later =
 abbrev pub wrong : List ℕ → Bool
 wrong b = (not (eqb (version b) 4) || ltb (header_words b) 5) || ltb (total_length b) (header_length b)
 
--- "header tests have their own order: fewer than 20 bytes, 5; then 6; then bytes fewer than the header length, 5; then transport":
--- the number of the refusal, or 0
-unfoldable pub header_refusal : List ℕ → ℕ
+-- "header tests have their own order: fewer than 20 bytes, 5; then 6; then bytes fewer than the header length, 5; then transport"
+unfoldable pub header_refusal : List ℕ → Option Refusal
 header_refusal b =
-    cond (ltb (length b) 20) 5
-    (cond (wrong b) 6
-    (cond (ltb (length b) (header_length b)) 5
-    (cond (ltb (usable b) (header_length b + needed (protocol b) (later b))) 5
-    0)))
+    cond (ltb (length b) 20) (Some refusal.Short)
+    (cond (wrong b) (Some refusal.Header)
+    (cond (ltb (length b) (header_length b)) (Some refusal.Short)
+    (cond (ltb (usable b) (header_length b + needed (protocol b) (later b))) (Some refusal.Short)
+    None)))
 
 -- ---- what is read
 -- TCP's flags are the byte 13 after the IP header
@@ -77,17 +77,8 @@ header_of b =
     record { source = four_at b 12; destination = four_at b 16; protocol = protocol b; later = later b; transport = transport_of b }
 
 -- "The answer of a refusal is its number alone."
-abbrev pub answered : ℕ → Header → Reading
-answered zero h = Packet h
-answered (suc n) h = Refused (suc n)
-
-unfoldable pub read_of : List ℕ → Reading
-read_of b = answered (header_refusal b) (header_of b)
-
--- the paper's number for each case of the answer: that of the refusal, and 0 for a packet that is not refused
-abbrev pub refusal_of : Reading → ℕ
-refusal_of (Refused n) = n
-refusal_of (Packet h) = 0
+unfoldable pub read_of : List ℕ → Result Header Refusal
+read_of b = answer_unless (header_refusal b) (header_of b)
 
 -- ---- the two forms of `transport_of` that the code's own steps answer: with ports that stand at a place, and without
 abbrev pub with_ports : List ℕ → ℕ → Kind → Transport

@@ -1,13 +1,15 @@
 // Reading a packet's headers: IPv4 (RFC 791), then TCP (RFC 9293) or UDP (RFC 768). Options and checksums are not looked at.
 #![tactic(auto)]
 
-ghost use Rattle.std.specs.Prelude.{◌≡◌, ◌+◌, ◌*◌, ◌%◌, ◌≤◌, min, length};
+ghost use Rattle.std.specs.Prelude.{◌≡◌, ◌+◌, ◌*◌, ◌%◌, ◌≤◌, length, None};
+ghost use Rattle.refused.specs.Refused.{answer_unless};
 ghost use Rattle.packet.specs.Header.{later, needed, header_refusal, with_ports, without_ports, transport_of, header_of, read_of};
 ghost use Rattle.packet.specs.Kinds.{port_of};
 
 pub mod kinds;
 
 use kinds::Kind;
+use refused::Refusal;
 
 // What follows the IP header: the ports of TCP and UDP, and the kind. A later fragment and any other protocol have ports 0.
 #[derive(Clone, Copy)]
@@ -25,13 +27,6 @@ pub struct Header {
     pub protocol: u8,
     pub later: bool,
     pub transport: Transport,
-}
-
-// What reading answers: the headers, or the number of a refusal, 5 or 6.
-#[derive(Clone, Copy)]
-pub enum Reading {
-    Refused(u8),
-    Packet(Header),
 }
 
 // The length in bytes of an IP header whose first byte is this.
@@ -63,34 +58,27 @@ fn needed_after(protocol: u8, later: bool) -> usize
     }
 }
 
-// The smaller of two lengths.
-fn smaller(a: usize, b: usize) -> usize
-    ensures { result ≡ min a b }
-{
-    if a < b { a } else { b }
-}
-
-// The refusal of a packet's headers, in the order of the header tests, or 0.
-fn refusal(bytes: &[u8]) -> u8
-    ensures { result ≡ header_refusal bytes.now }
+// The header tests in their order: a packet is refused by 5 or 6.
+fn test(bytes: &[u8]) -> Result<(), Refusal>
+    ensures { result ≡ answer_unless (header_refusal bytes.now) tt }
 {
     if bytes.len() < 20 {
-        return 5;
+        return Err(Refusal::Short);
     }
     let first = bytes[0];
     let start = header_length(first);
     let total = words::two_at(bytes, 2) as usize;
     if ((first / 16 != 4) | (first % 16 < 5)) | (total < start) {
-        return 6;
+        return Err(Refusal::Header);
     }
     if bytes.len() < start {
-        return 5;
+        return Err(Refusal::Short);
     }
     let after = needed_after(bytes[9], is_later(bytes));
-    if smaller(bytes.len(), total) < start + after {
-        return 5;
+    if bytes.len().min(total) < start + after {
+        return Err(Refusal::Short);
     }
-    0
+    Ok(())
 }
 
 // Plain, with no ports.
@@ -118,7 +106,7 @@ fn with_ports(bytes: &[u8], start: usize, kind: Kind) -> Transport
 
 // What follows the IP header of a packet that is not refused.
 fn transport_of(bytes: &[u8]) -> Transport
-    requires { (20 ≤ length bytes.now) × (header_refusal bytes.now ≡ 0) }
+    requires { (20 ≤ length bytes.now) × (header_refusal bytes.now ≡ None) }
     ensures { result ≡ transport_of bytes.now }
 {
     let start = header_length(bytes[0]);
@@ -135,7 +123,7 @@ fn transport_of(bytes: &[u8]) -> Transport
 
 // The headers of a packet that is not refused.
 fn header_of(bytes: &[u8]) -> Header
-    requires { (20 ≤ length bytes.now) × (header_refusal bytes.now ≡ 0) }
+    requires { (20 ≤ length bytes.now) × (header_refusal bytes.now ≡ None) }
     ensures { result ≡ header_of bytes.now }
 {
     Header {
@@ -147,15 +135,13 @@ fn header_of(bytes: &[u8]) -> Header
     }
 }
 
-// Reads the headers of a packet, and answers what the gateway needs of them, or refusal 5 or 6.
-pub fn read(bytes: &[u8]) -> Reading
+// Reads the headers of a packet, and answers what the gateway needs of them. It is refused by 5 or 6.
+#[tactic(auto, unfolding(crate::specs::Header::read_of))]
+pub fn read(bytes: &[u8]) -> Result<Header, Refusal>
     ensures { result ≡ read_of bytes.now }
 {
-    let number = refusal(bytes);
-    if number != 0 {
-        return Reading::Refused(number);
-    }
-    Reading::Packet(header_of(bytes))
+    test(bytes)?;
+    Ok(header_of(bytes))
 }
 
 impl Header {
