@@ -9,23 +9,24 @@ use lib.Dec.{leb, ltb}
 use lib.ListN.{length}
 use native.Mathlib.Omega.{arith}
 use borrow.Author.Tests.{le-leb, lt-leb, lt-ltb, le-ltb, leb-true, leb-false, ltb-true, ltb-false}
+use Rattle.std.specs.Prelude.{Ok, Err}
+use Rattle.refused.specs.declared.Refusal.TheVariants as refusal
 use Rattle.capture.specs.declared.Cursor.{Cursor}
-use Rattle.capture.specs.declared.Opened.TheVariants.{Refused, Open}
 use Rattle.capture.specs.declared.Record.{Record}
 use Rattle.capture.specs.declared.Reading.{Reading}
 use Rattle.capture.specs.declared.Reading.TheVariants.{End, Cut, Long, Whole}
 use Rattle.capture.specs.Capture.{big_endian, bad_words, bad_header, opened_of, head_at, next_of, record_refusal}
 
 module _ (l : List ℕ) where
-  pub short : length l < 24 → opened_of l ≡ Refused 7
+  pub short : length l < 24 → opened_of l ≡ Err refusal.Capture
   unfolding opened_of bad_header
   short h = rw (lt-ltb _ _ h)
 
-  pub wrong : 24 ≤ length l → bad_words (big_endian l) l ≡ true → opened_of l ≡ Refused 7
+  pub wrong : 24 ≤ length l → bad_words (big_endian l) l ≡ true → opened_of l ≡ Err refusal.Capture
   unfolding opened_of bad_header
   wrong h e = rw (le-ltb _ _ h, e)
 
-  pub opened : 24 ≤ length l → bad_words (big_endian l) l ≡ false → opened_of l ≡ Open (record { at = 24; big_endian = big_endian l })
+  pub opened : 24 ≤ length l → bad_words (big_endian l) l ≡ false → opened_of l ≡ Ok (record { at = 24; big_endian = big_endian l })
   unfolding opened_of bad_header
   opened h e = rw (le-ltb _ _ h, e)
 

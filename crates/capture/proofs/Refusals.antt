@@ -8,20 +8,21 @@ use mathlib.Core.Path.{◌≡◌, refl}
 use Prim.Native.Nat.{ℕ, ◌+◌}
 use lib.Dec.{ltb, leb}
 use lib.ListN.{length}
+use Rattle.std.specs.Prelude.{Ok, Err}
+use Rattle.refused.specs.declared.Refusal.TheVariants as refusal
+use Rattle.refused.specs.Refused.{refusal_in}
 use Rattle.words.specs.Words.{stored}
-use Rattle.capture.specs.declared.Opened.TheVariants.{Refused, Open}
-use Rattle.capture.specs.declared.Written.TheVariants as written
-use Rattle.capture.specs.declared.Written.TheVariants.{Next}
-use Rattle.capture.specs.Capture.{big_endian, bad_header, opened_of, open_refusal}
+use Rattle.capture.specs.declared.Cursor.{Cursor}
+use Rattle.capture.specs.Capture.{big_endian, bad_header, opened_of}
 use Rattle.capture.specs.Format.{header_size, most_captured, header_bytes, Content, record_bytes}
-use Rattle.capture.specs.Writing.{Put, put_of, bytes_put, header_put, record_put, write_refusal, place_told}
+use Rattle.capture.specs.Writing.{Put, put_of, bytes_put, header_put, record_put, place_told}
 
 -- 7 exactly where the header is bad
-pub seven_told : (l : List ℕ) → open_refusal (opened_of l) ≡ cond (bad_header l) 7 0
+pub seven_told : (l : List ℕ) → refusal_in (opened_of l) ≡ cond (bad_header l) 7 0
 unfolding opened_of
 seven_told l = go (bad_header l)
   where
-    go : (bad : Bool) → open_refusal (cond bad (Refused 7) (Open (record { at = header_size; big_endian = big_endian l }))) ≡ cond bad 7 0
+    go : (bad : Bool) → refusal_in {A = Cursor} (cond bad (Err refusal.Capture) (Ok (record { at = header_size; big_endian = big_endian l }))) ≡ cond bad 7 0
     go true = refl
     go false = refl
 
@@ -31,7 +32,7 @@ abbrev pub fits : List ℕ → ℕ → List ℕ → Bool
 fits bytes at room = leb (at + length bytes) (length room)
 
 pub record Tells (refusal : ℕ) (bytes : List ℕ) (at : ℕ) (room : List ℕ) (after : Put) : Type 0 where
-  pub number : write_refusal after.answer ≡ refusal
+  pub number : refusal_in after.answer ≡ refusal
   pub place : place_told after.answer ≡ cond (ltb 0 refusal) none (some (at + length bytes))
   pub left : after.room ≡ cond (ltb 0 refusal) room (stored bytes at room)
 
@@ -39,7 +40,7 @@ bytes_tell : (bytes : List ℕ) (at : ℕ) (room : List ℕ) → Tells (cond (fi
 unfolding bytes_put
 bytes_tell bytes at room = go (fits bytes at room)
   where
-    go : (t : Bool) → Tells (cond t 0 9) bytes at room (cond t (put_of (Next (at + length bytes)) (stored bytes at room)) (put_of (written.Refused 9) room))
+    go : (t : Bool) → Tells (cond t 0 9) bytes at room (cond t (put_of (Ok (at + length bytes)) (stored bytes at room)) (put_of (Err refusal.Room) room))
     go true = record { number = refl; place = refl; left = refl }
     go false = record { number = refl; place = refl; left = refl }
 
@@ -53,6 +54,6 @@ pub record_tells : (r : Content) (at : ℕ) (room : List ℕ)
 unfolding record_put
 record_tells r at room = go (ltb most_captured (length r.bytes))
   where
-    go : (t : Bool) → Tells (cond t 8 (cond (fits (record_bytes false r) at room) 0 9)) (record_bytes false r) at room (cond t (put_of (written.Refused 8) room) (bytes_put (record_bytes false r) at room))
+    go : (t : Bool) → Tells (cond t 8 (cond (fits (record_bytes false r) at room) 0 9)) (record_bytes false r) at room (cond t (put_of (Err refusal.Record) room) (bytes_put (record_bytes false r) at room))
     go true = record { number = refl; place = refl; left = refl }
     go false = bytes_tell (record_bytes false r) at room

@@ -8,12 +8,12 @@ use native.Mathlib.Nat.{add-zero}
 use native.Mathlib.Omega.{arith}
 use lib.ListN.{length, get_or, take, drop, length-append, length-take, length-drop, take-append-drop, drop_of_length-le}
 use lib.Seq.{drop-drop, take-add, drop_at, take_at}
+use Rattle.std.specs.Prelude.{Ok}
 use Rattle.words.specs.Words.{stored}
 use Rattle.words.proofs.Words.{all_stored, stored_length, stored_then}
 use Rattle.words.specs.Layouts.{Bytes, limit, four, bytes_for, numbers_at, Holds}
 use Rattle.words.proofs.Layouts.{numbers_back, in_range, layout_back, layout_size}
 use Rattle.capture.specs.declared.Cursor.{Cursor}
-use Rattle.capture.specs.declared.Opened.TheVariants.{Open}
 use Rattle.capture.specs.declared.Record.{Record}
 use Rattle.capture.specs.declared.Reading.TheVariants.{End, Cut, Long, Whole}
 use Rattle.capture.specs.Format.{Content, content_of, record_words, record_numbers, record_bytes, records_bytes, capture_bytes, header_bytes}
@@ -24,7 +24,6 @@ use Rattle.capture.proofs.Readings.{opened, at_the_end, is_whole, tells, whole_r
 use Rattle.capture.proofs.Whole.{covers, Opens, says}
 use Rattle.capture.proofs.Writings.{have_room, few_enough, the_header}
 use Rattle.capture.specs.Writing.{Put, put_of, next_put, records_put, capture_put}
-use Rattle.capture.specs.declared.Written.TheVariants.{Next}
 
 -- a cursor
 abbrev pub cursor_at : Bool → ℕ → Cursor
@@ -112,13 +111,13 @@ module _ (big : Bool) (l : List ℕ) where
 -- ---- reading what was written: "the same seconds, microseconds, original lengths and bytes"
 pub record ReadsBack (big : Bool) (records : List Content) : Type 0 where
   -- it opens, in the byte order in which it was written, and its first record starts behind the header
-  pub opens : opened_of (capture_bytes big records) ≡ Open (cursor_at big 24)
+  pub opens : opened_of (capture_bytes big records) ≡ Ok (cursor_at big 24)
   -- it is read to its end, and no record is refused
   pub ends : (course_of (capture_bytes big records) (cursor_at big 24)).ended ≡ End
   -- it tells the records that were written, in their order
   pub same : records_in (capture_bytes big records) (cursor_at big 24) ≡ records
 
-opens_as : (big : Bool) (records : List Content) → opened_of (capture_bytes big records) ≡ Open (cursor_at big 24)
+opens_as : (big : Bool) (records : List Content) → opened_of (capture_bytes big records) ≡ Ok (cursor_at big 24)
 opens_as true records = opened (capture_bytes true records) (omega arith) refl
 opens_as false records = opened (capture_bytes false records) (omega arith) refl
 
@@ -216,7 +215,7 @@ module _ (l : List ℕ) (bytes : Bytes l) where
 
 -- "a little-endian capture with header words zone 0, accuracy 0 and snap length 2,048, and no refused record, comes back byte for byte": in
 -- either byte order, where it is written in the one in which it stands
-pub comes_back : (l : List ℕ) → Bytes l → (cursor : Cursor) → opened_of l ≡ Open cursor → let big = cursor.big_endian in
+pub comes_back : (l : List ℕ) → Bytes l → (cursor : Cursor) → opened_of l ≡ Ok cursor → let big = cursor.big_endian in
     zone_in big l ≡ 0 → accuracy_in big l ≡ 0 → snap_length_in big l ≡ 2048 → (course_of l cursor).ended ≡ End
     → capture_bytes big (records_in l cursor) ≡ l
 comes_back l bytes cursor e zone accuracy snap ended =
@@ -241,7 +240,7 @@ all_in_list l (r ∷ records) each = (each.0, all_in_list l records each.1)
 module _ (at : ℕ) (room : List ℕ) where
   -- so many bytes of it are written
   abbrev written : List ℕ → Put
-  written done = put_of (Next (at + length done)) (stored done at room)
+  written done = put_of (Ok (at + length done)) (stored done at room)
 
   next_written : (done : List ℕ) (r : Content) → Writable r → at + length (done ++ record_bytes false r) ≤ length room
       → next_put r (written done).answer (written done).room ≡ written (done ++ record_bytes false r)
@@ -251,7 +250,7 @@ module _ (at : ℕ) (room : List ℕ) where
       let end : at + length done + length bytes ≡ at + length (done ++ bytes) = omega (arith, both) in
       few_enough r (at + length done) (stored done at room) ok.3
       ∙ have_room bytes (at + length done) (stored done at room) (omega (arith, fits, both, stored_length done at room))
-      ∙ (λ i. put_of (Next (end i)) (stored_then done bytes at room fits i))
+      ∙ (λ i. put_of (Ok (end i)) (stored_then done bytes at room fits i))
 
   records_written : (records : List Content) (done : List ℕ) → AllWritable records → at + length (done ++ records_bytes false records) ≤ length room
       → records_put records (written done) ≡ written (done ++ records_bytes false records)
@@ -285,17 +284,17 @@ module _ (at : ℕ) (room : List ℕ) where
   -- and reading there gives the records back
   pub read_there : (records : List Content) → AllWritable records → at + length (capture_bytes false records) ≤ length room
       → let part = take (length (capture_bytes false records)) (drop at (capture_put records at room).room) in
-      (opened_of part ≡ Open (cursor_at false 24)) × ((course_of part (cursor_at false 24)).ended ≡ End) × (records_in part (cursor_at false 24) ≡ records)
+      (opened_of part ≡ Ok (cursor_at false 24)) × ((course_of part (cursor_at false 24)).ended ≡ End) × (records_in part (cursor_at false 24) ≡ records)
   read_there records ok fits =
       let back = reads_back false records ok in
-      subst (λ (l : List ℕ). (opened_of l ≡ Open (cursor_at false 24)) × ((course_of l (cursor_at false 24)).ended ≡ End) × (records_in l (cursor_at false 24) ≡ records))
+      subst (λ (l : List ℕ). (opened_of l ≡ Ok (cursor_at false 24)) × ((course_of l (cursor_at false 24)).ended ≡ End) × (records_in l (cursor_at false 24) ≡ records))
       (sym (stands_there records ok fits)) (back.opens, back.ends, back.same)
 
   -- what was read of a little-endian capture with the writer's header words, and no refused record, is written as it stood
-  pub written_back : (l : List ℕ) → Bytes l → opened_of l ≡ Open (cursor_at false 24)
+  pub written_back : (l : List ℕ) → Bytes l → opened_of l ≡ Ok (cursor_at false 24)
       → zone_in false l ≡ 0 → accuracy_in false l ≡ 0 → snap_length_in false l ≡ 2048 → (course_of l (cursor_at false 24)).ended ≡ End
       → at + length l ≤ length room
-      → capture_put (records_in l (cursor_at false 24)) at room ≡ put_of (Next (at + length l)) (stored l at room)
+      → capture_put (records_in l (cursor_at false 24)) at room ≡ put_of (Ok (at + length l)) (stored l at room)
   written_back l bytes e zone accuracy snap ended fits =
       let same = comes_back l bytes (cursor_at false 24) e zone accuracy snap ended in
       all_written (records_in l (cursor_at false 24)) (all_in_list l (course_of l (cursor_at false 24)).records (each_can_be_written l bytes (length l) (cursor_at false 24)))

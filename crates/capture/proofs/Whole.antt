@@ -10,11 +10,12 @@ use lib.Dec.{eqb, ltb}
 use lib.ListN.{length, take, drop, take-append-drop}
 use lib.Seq.{drop-drop}
 use borrow.Author.Tests.{ltb-false, eqb-true, not-false}
+use Rattle.std.specs.Prelude.{Result, Ok, Err}
+use Rattle.refused.specs.declared.Refusal.{Refusal}
+use Rattle.refused.specs.declared.Refusal.TheVariants as refusal
 use Rattle.laws.proofs.Tests.{or_left, or_right}
 use Rattle.capture.specs.Format.{magic, magic_in, major_in, minor_in, link_type_in}
 use Rattle.capture.specs.declared.Cursor.{Cursor}
-use Rattle.capture.specs.declared.Opened.{Opened}
-use Rattle.capture.specs.declared.Opened.TheVariants.{Refused, Open}
 use Rattle.capture.specs.declared.Record.{Record}
 use Rattle.capture.specs.declared.Reading.{Reading}
 use Rattle.capture.specs.declared.Reading.TheVariants.{End, Cut, Long, Whole}
@@ -151,7 +152,7 @@ pub record Opens (l : List ℕ) (cursor : Cursor) : Type 0 where
 is_so : (a b : ℕ) → not (eqb a b) ≡ false → a ≡ b
 is_so a b e = eqb-true a b (not-false (eqb a b) e)
 
-pub says : (l : List ℕ) (cursor : Cursor) → opened_of l ≡ Open cursor → Opens l cursor
+pub says : (l : List ℕ) (cursor : Cursor) → opened_of l ≡ Ok cursor → Opens l cursor
 unfolding opened_of bad_header
 says l cursor e = subst Says e (go (ltb (length l) 24) (bad_words big l) (ltb-false _ _) words)
   where
@@ -161,9 +162,9 @@ says l cursor e = subst Says e (go (ltb (length l) 24) (bad_words big l) (ltb-fa
     first : Cursor
     first = record { at = 24; big_endian = big }
 
-    Says : Opened → Type 0
-    Says (Refused number) = Unit {0}
-    Says (Open c) = Opens l c
+    Says : Result Cursor Refusal → Type 0
+    Says (Err refused) = Unit {0}
+    Says (Ok c) = Opens l c
 
     words : bad_words big l ≡ false → 24 ≤ length l → Opens l (first)
     words q long =
@@ -180,13 +181,13 @@ says l cursor e = subst Says e (go (ltb (length l) 24) (bad_words big l) (ltb-fa
         }
 
     go : (short bad : Bool) → (short ≡ false → 24 ≤ length l) → (bad ≡ false → 24 ≤ length l → Opens l (first))
-        → Says (cond (cond short true bad) (Refused 7) (Open (first)))
+        → Says (cond (cond short true bad) (Err refusal.Capture) (Ok (first)))
     go true bad h w = tt
     go false true h w = tt
     go false false h w = w refl (h refl)
 
 -- so it is of a whole capture: of every one that opens, from its first record on
-pub whole_capture : (l : List ℕ) (cursor : Cursor) → opened_of l ≡ Open cursor
+pub whole_capture : (l : List ℕ) (cursor : Cursor) → opened_of l ≡ Ok cursor
     → (cursor.at ≡ 24) × (24 ≤ length l) × Covers l cursor (course_of l cursor)
 whole_capture l cursor e =
     let o = says l cursor e in

@@ -1,11 +1,11 @@
 -- Document 01, "Captures are classic pcap, version 2.4.", and refusals 7 and 8: what reading answers.
 -- Assumes nothing.
-use Rattle.std.specs.Prelude.{Bool, true, cond, not, ◌||◌, List, ℕ, ◌+◌, eqb, ltb, leb, length}
+use Rattle.std.specs.Prelude.{Bool, true, cond, not, ◌||◌, List, ℕ, ◌+◌, eqb, ltb, leb, length, Result, Ok, Err}
+use Rattle.refused.specs.declared.Refusal.{Refusal}
+use Rattle.refused.specs.declared.Refusal.TheVariants as refusal
 use Rattle.capture.specs.Format.{header_size, most_captured, magic, major, minor, link_type, magic_in, major_in, minor_in, link_type_in}
 use Rattle.capture.specs.Format.{record_size, seconds_in, microseconds_in, captured_in, original_in}
 use Rattle.capture.specs.declared.Cursor.{Cursor}
-use Rattle.capture.specs.declared.Opened.{Opened}
-use Rattle.capture.specs.declared.Opened.TheVariants.{Refused, Open}
 use Rattle.capture.specs.declared.Record.{Record}
 use Rattle.capture.specs.declared.Reading.{Reading}
 use Rattle.capture.specs.declared.Reading.TheVariants.{End, Cut, Long, Whole}
@@ -26,8 +26,8 @@ bad_words big l =
 unfoldable pub bad_header : List ℕ → Bool
 bad_header l = cond (ltb (length l) header_size) true (bad_words (big_endian l) l)
 
-unfoldable pub opened_of : List ℕ → Opened
-opened_of l = cond (bad_header l) (Refused 7) (Open (record { at = header_size; big_endian = big_endian l }))
+unfoldable pub opened_of : List ℕ → Result Cursor Refusal
+opened_of l = cond (bad_header l) (Err refusal.Capture) (Ok (record { at = header_size; big_endian = big_endian l }))
 
 -- ---- a record: its header, and the captured bytes
 -- what the header says that starts at a place: seconds, microseconds, captured and original length, and where the captured bytes stand
@@ -54,11 +54,7 @@ next_of l cursor =
     head : Record
     head = head_at cursor.big_endian cursor.at l
 
--- the paper's number for each case of the answers, and 0 for what is not refused
-abbrev pub open_refusal : Opened → ℕ
-open_refusal (Refused number) = number
-open_refusal (Open cursor) = 0
-
+-- the paper's number for each case of the answer, and 0 for what is not refused
 abbrev pub record_refusal : Reading → ℕ
 record_refusal End = 0
 record_refusal Cut = 8

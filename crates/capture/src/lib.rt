@@ -8,6 +8,8 @@ ghost use Rattle.words.specs.Words.{stored};
 ghost use Rattle.capture.specs.Format.{header_bytes, content_of, record_bytes};
 ghost use Rattle.capture.specs.Writing.{put_of, header_put, record_put};
 
+use refused::Refusal;
+
 const MAGIC: u32 = 0xa1b2c3d4;
 
 const HEADER: usize = 24;
@@ -26,13 +28,6 @@ pub struct Cursor {
     pub big_endian: bool,
 }
 
-// What opening answers: the number of a refusal, or where the first record starts.
-#[derive(Clone, Copy)]
-pub enum Opened {
-    Refused(u8),
-    Open(Cursor),
-}
-
 // A record: its second and microsecond, how many bytes were captured of how many, and where these stand: from a place up to another,
 // where the next record starts.
 #[repr(C)]
@@ -48,19 +43,13 @@ pub struct Record {
 
 // What reading a record answers: that no byte is left, that the record is cut off by the end of the bytes, that it has too many captured
 // bytes, or the record.
+// Kept: the callers go on in a way of its own at each of the four, and only two of them are refusals; a Result of an Option nests them.
 #[derive(Clone, Copy)]
 pub enum Reading {
     End,
     Cut,
     Long,
     Whole(Record),
-}
-
-// What writing answers: the number of a refusal, or the place after what was written.
-#[derive(Clone, Copy)]
-pub enum Written {
-    Refused(u8),
-    Next(usize),
 }
 
 // Whether a header that is not short has a wrong magic, version or link type.
@@ -75,18 +64,18 @@ fn bad_words(bytes: &[u8], big_endian: bool) -> bool
     (magic != MAGIC) | (((major != 2) | (minor != 4)) | (link != 1))
 }
 
-// Reads a capture's header. Answers refusal 7, or a cursor at the first record.
-pub fn open(bytes: &[u8]) -> Opened
+// Reads a capture's header, and answers a cursor at the first record. It is refused by 7.
+pub fn open(bytes: &[u8]) -> Result<Cursor, Refusal>
     ensures { result ≡ opened_of bytes.now }
 {
     if bytes.len() < HEADER {
-        return Opened::Refused(7);
+        return Err(Refusal::Capture);
     }
     let big_endian = words::four_at(bytes, 0) == MAGIC;
     if bad_words(bytes, big_endian) {
-        return Opened::Refused(7);
+        return Err(Refusal::Capture);
     }
-    Opened::Open(Cursor {
+    Ok(Cursor {
         at: HEADER,
         big_endian,
     })
@@ -156,20 +145,20 @@ fn fill_record(room: &mut [u8], seconds: u32, microseconds: u32, original: u32, 
     words::store(room, RECORD_HEADER, source);
 }
 
-// Writes a capture's header into the room at a place. Answers the place of the first record, or refusal 9 where there is no room for it.
-pub fn put_header(room: &mut [u8], at: usize) -> Written
+// Writes a capture's header into the room at a place, and answers the place of the first record. It is refused by 9 where there is no room.
+pub fn put_header(room: &mut [u8], at: usize) -> Result<usize, Refusal>
     ensures { put_of result room.new ≡ header_put at room.old }
 {
     if words::has_room(room.len(), at, HEADER) {
         let end = at + HEADER;
         fill_header(&mut room[at..end]);
-        return Written::Next(end);
+        return Ok(end);
     }
-    Written::Refused(9)
+    Err(Refusal::Room)
 }
 
 // Writes a record into the room at a place: its second and microsecond, its original length, and the bytes that were captured of it.
-// Answers the place of the next record, or refusal 8 where they are more than 2,048, and then 9 where there is no room for the record.
+// Answers the place of the next record. It is refused by 8 where they are more than 2,048, and then by 9 where there is no room.
 pub fn put_record(
     room: &mut [u8],
     at: usize,
@@ -177,18 +166,18 @@ pub fn put_record(
     microseconds: u32,
     original: u32,
     source: &[u8],
-) -> Written
+) -> Result<usize, Refusal>
     ensures { put_of result room.new
         ≡ record_put (content_of seconds microseconds original source.now) at room.old }
 {
     if MOST_CAPTURED < source.len() {
-        return Written::Refused(8);
+        return Err(Refusal::Record);
     }
     let size = RECORD_HEADER + source.len();
     if words::has_room(room.len(), at, size) {
         let end = at + size;
         fill_record(&mut room[at..end], seconds, microseconds, original, source);
-        return Written::Next(end);
+        return Ok(end);
     }
-    Written::Refused(9)
+    Err(Refusal::Room)
 }
