@@ -2,7 +2,7 @@
 -- Assumes nothing.
 use mathlib.Core.Bool.{Bool, true, false, not}
 use mathlib.Core.List.{List, [], ◌∷◌}
-use mathlib.Core.Option.{none, some}
+use Rattle.std.specs.Prelude.{None, Some}
 use mathlib.Core.Path.{◌≡◌, refl}
 use Prim.Native.Nat.{ℕ}
 use native.Mathlib.Omega.{arith}
@@ -12,7 +12,7 @@ pub twice_not : (t : Bool) → not (not t) ≡ t
 twice_not true = refl
 twice_not false = refl
 
-pub not_some : {d : ℤ} → none ≡ some d → ⊥
+pub not_some : {d : ℤ} → None ≡ Some d → ⊥
 not_some e = let z : ◌≡◌ {A = ℕ} 0 1 = cc in omega arith
 
 pub same_head : {A : Type 0} {x y : A} {xs ys : List A} → x ∷ xs ≡ y ∷ ys → x ≡ y

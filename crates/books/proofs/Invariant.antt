@@ -4,13 +4,13 @@
 use mathlib.Core.Bool.{true, false}
 use mathlib.Core.List.{List, [], ◌∷◌, map}
 use mathlib.Core.Logic.{inl}
-use mathlib.Core.Option.{Option, none, some}
 use mathlib.Core.Path.{◌≡◌, refl, sym, ap, subst, ◌∙◌}
 use Prim.Native.Nat.{ℕ, ◌+◌, ◌*◌, ◌/◌, ◌^◌, ◌≤◌, ◌<◌, max}
 use native.Mathlib.Nat.{le_trans, add-mul, zero-mul, add-zero}
 use native.Mathlib.Omega.{arith}
 use lib.IntN.{ℤ}
 use lib.ListN.{length, get_or, length-map, get_or-map}
+use Rattle.std.specs.Prelude.{Option, None, Some}
 use Rattle.laws.specs.Times.{times_in}
 use Rattle.laws.proofs.Signed.{up, dn}
 use Rattle.permute.proofs.Inverse.{Keys}
@@ -210,10 +210,10 @@ module _ (x : Setup) (start : Start) where
       r.threshold ≤ fresh_contacts site start (cell_address (ours_of site bytes)) h + up (start.count (cell_address (ours_of site bytes)))
 
   abbrev pub Rightly : List Event → Option JudgedPacket → Type 0
-  Rightly h none = Unit {0}
-  Rightly h (some it) =
-      (is_fresh site start it.time (packet_in site it) (some it.verdict) h ≡ tells 4 (some it.verdict))
-      × (tells 6 (some it.verdict) ≡ true → Enough it.bytes h)
+  Rightly h None = Unit {0}
+  Rightly h (Some it) =
+      (is_fresh site start it.time (packet_in site it) (Some it.verdict) h ≡ tells 4 (Some it.verdict))
+      × (tells 6 (Some it.verdict) ≡ true → Enough it.bytes h)
 
   -- all of it: the invariant, the clock that the call leaves, and its answer
   pub record Stepped (clock : ℕ) (h : List Event) (s : State) (event : Event) : Type 0 where
@@ -223,7 +223,7 @@ module _ (x : Setup) (start : Start) where
 
   -- A quiet event judges no packet of ours. What was true of the state before it, or at its time, stays true after it: it adds nothing to
   -- any slot or account. This is one fact for every sort of call.
-  pub stepped_quiet : {clock : ℕ} {s : State} {h : List Event} → Run s h → (event : Event) → (told event).judged ≡ none
+  pub stepped_quiet : {clock : ℕ} {s : State} {h : List Event} → Run s h → (event : Event) → (told event).judged ≡ None
       → s.clock ≡ or_before (told event).clock clock → Stepped clock h s event
   stepped_quiet {s = s} {h = h} i event quiet time =
       record {

@@ -2,10 +2,10 @@
 -- any that do.
 -- Assumes nothing.
 use mathlib.Core.Bool.{Bool}
-use mathlib.Core.Option.{some}
 use mathlib.Core.Path.{◌≡◌}
 use Prim.Native.Nat.{ℕ, suc, ◌+◌, ◌≤◌, ◌<◌}
 use lib.IntN.{ℤ}
+use Rattle.std.specs.Prelude.{Some}
 use Rattle.laws.proofs.Signed.{up, dn}
 use Rattle.packet.specs.declared.Header.{Header}
 use Rattle.places.specs.declared.Placing.{Placing}
@@ -20,5 +20,5 @@ pub record Lawful (rules : Rules) (W U : ℕ) : Type 0 where
   pub weight_le : (h : Header) → rules.weight h ≤ W
   pub floor_low : up rules.floor ≡ 0
   pub floor_near : dn rules.floor < 32768
-  pub attempt_up : (h : Header) (c d : ℤ) → rules.attempt h c ≡ some d → (up c ≤ up d) × (dn d ≤ dn c)
+  pub attempt_up : (h : Header) (c d : ℤ) → rules.attempt h c ≡ Some d → (up c ≤ up d) × (dn d ≤ dn c)
   pub slot_lt : (placing : Placing) (h : Header) (from_plant : Bool) (records : ℕ) → 0 < records → rules.slot placing h from_plant records < records

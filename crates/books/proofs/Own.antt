@@ -1,12 +1,12 @@
 -- An address's account under a packet of its own: the count that its verdict writes, if it writes one, keeps the account.
 -- Assumes nothing.
 use mathlib.Core.Bool.{true, cond}
-use mathlib.Core.Option.{Option, none, some}
 use mathlib.Core.Path.{◌≡◌, refl}
 use Prim.Native.Nat.{ℕ, suc, ◌+◌, ◌*◌, ◌≤◌, ◌<◌}
 use native.Mathlib.Nat.{add-mul}
 use native.Mathlib.Omega.{arith}
 use lib.IntN.{ℤ}
+use Rattle.std.specs.Prelude.{Option, None, Some}
 use Rattle.laws.proofs.Signed.{up, dn}
 use Rattle.verdicts.specs.declared.Verdict.{Verdict}
 use Rattle.verdicts.specs.declared.Verdict.TheVariants.{Uncounted, CreditOfOne, CreditOfTwo, FreshContact, Hygiene, Blocked}
@@ -17,7 +17,7 @@ use Rattle.books.proofs.Slots.{told_of, is_four, is_six}
 
 -- an attempt writes no lower count
 abbrev pub NoLower : ℤ → Option ℤ → Type 0
-NoLower c attempted = (d : ℤ) → attempted ≡ some d → (up c ≤ up d) × (dn d ≤ dn c)
+NoLower c attempted = (d : ℤ) → attempted ≡ Some d → (up c ≤ up d) × (dn d ≤ dn c)
 
 module _ {B U W : ℕ} (floor : ℤ) (point weight : ℕ) (room : B ≤ U) (wide : B + W ≤ suc U) (bits : U ≤ 32767) (light : weight ≤ W)
     (floor_low : up floor ≡ 0) (floor_near : dn floor < 32768) {c0 c : ℤ} {F D R : ℕ} (H : ℕ) (i : Holds B U c0 c F D (H * point) R) where
@@ -41,6 +41,6 @@ module _ {B U W : ℕ} (floor : ℤ) (point weight : ℕ) (room : B ≤ U) (wide
       let low = four refl in
       recast (on_fresh i wide light low (raised weight c (omega arith))) refl refl refl (omega (arith, add-mul H 0 point)) refl
   own_account attempted Hygiene four six higher = quiet
-  own_account none Blocked four six higher = quiet
-  own_account (some d) Blocked four six higher =
+  own_account None Blocked four six higher = quiet
+  own_account (Some d) Blocked four six higher =
       recast (on_attempt i (six refl) room (higher d refl).0 (higher d refl).1) refl (omega arith) refl (omega (arith, add-mul H 0 point)) refl

@@ -3,7 +3,6 @@
 use mathlib.Core.Bool.{Bool, true, false, not, ◌&&◌, cond, and-false, and-true}
 use mathlib.Core.List.{List, ◌∷◌}
 use mathlib.Core.Logic.{◌≢◌, inl}
-use mathlib.Core.Option.{Option, none, some}
 use mathlib.Core.Path.{◌≡◌, refl, sym, ap, subst, ◌∙◌}
 use Prim.Native.Nat.{ℕ, zero, suc, ◌+◌, ◌*◌, ◌/◌, ◌^◌, ◌≤◌, ◌<◌}
 use native.Mathlib.Decide.{ℕ_discrete}
@@ -24,7 +23,7 @@ use Rattle.places.specs.declared.Placing.{Placing}
 use Rattle.places.specs.Places.{place_of}
 use Rattle.records.specs.Records.{marks_of, is_unmarked, is_cold}
 use Rattle.counts.specs.Counts.{is_blocked}
-use Rattle.std.specs.Prelude.{None}
+use Rattle.std.specs.Prelude.{None, Option, Some}
 use Rattle.entries.specs.Entries.{Written, written_of, written}
 use Rattle.entries.proofs.Readback.{same_lengths}
 use Rattle.entries.proofs.Once.{Once, once_after}
@@ -54,7 +53,7 @@ use Rattle.books.proofs.Invariant.{Setup, lines_in, timed, clock_at, count_in, F
 
 -- a verdict of ours is told as the judgement of a packet
 judgement_is : (time : ℕ) (bytes : List ℕ) (verdict : Verdict)
-    → judgement_by time bytes (told_of verdict) ≡ some (record { time = time; bytes = bytes; verdict = number_of verdict })
+    → judgement_by time bytes (told_of verdict) ≡ Some (record { time = time; bytes = bytes; verdict = number_of verdict })
 judgement_is time bytes Uncounted = refl
 judgement_is time bytes CreditOfOne = refl
 judgement_is time bytes CreditOfTwo = refl
@@ -208,12 +207,12 @@ module _ (x : Setup) (start : Start) where
         (H address h + cond (eqb cell address) (credit_of told) 0) (R address h + named address new)
 
     abbrev attempted : Option ℤ
-    attempted = cond (is_unmarked (marks_of byte)) (r.attempt packet.header count) none
+    attempted = cond (is_unmarked (marks_of byte)) (r.attempt packet.header count) None
 
     no_lower : NoLower count attempted
     no_lower = go (is_unmarked (marks_of byte))
       where
-        go : (t : Bool) → NoLower count (cond t (r.attempt packet.header count) none)
+        go : (t : Bool) → NoLower count (cond t (r.attempt packet.header count) None)
         go true d e = x.ok.attempt_up packet.header count d e
         go false d e = absurd (not_some e)
 
@@ -234,8 +233,8 @@ module _ (x : Setup) (start : Start) where
     lines_are = omega (arith, i.sound.tags_long)
 
     own_written : (n : Option ℤ) → dn (counted_by count n).count < 32768 → count_after n cell ≡ (counted_by count n).count
-    own_written none full = refl
-    own_written (some d) full =
+    own_written None full = refl
+    own_written (Some d) full =
         own_count x.k (lines_in s) a lines_are i.sound.few s.tables.tags s.tables.counts i.sound.tags_long i.sound.counts_long cell d full
 
     own_after : BooksAfter cell
@@ -251,8 +250,8 @@ module _ (x : Setup) (start : Start) where
     -- another address: nothing of its own is counted, and its count stays unless it is named
     module _ (other : ℕ) (other-small : other < 2 ^ 32) (apart : other ≢ cell) where
       other_written : (n : Option ℤ) → StaysOrNamed (named other n) (count_in x s other) (count_after n other)
-      other_written none = inl refl
-      other_written (some d) =
+      other_written None = inl refl
+      other_written (Some d) =
           other_count x.k (lines_in s) a lines_are i.sound.few s.tables.tags s.tables.counts i.sound.tags_long i.sound.counts_long cell d
           i.sound.once other other-small small apart
 
@@ -267,12 +266,12 @@ module _ (x : Setup) (start : Start) where
 
     -- ---- the lists stay sound
     wrote_lengths : (n : Option ℤ) → (length (wrote n).tags ≡ length s.tables.tags) × (length (wrote n).counts ≡ length s.tables.counts)
-    wrote_lengths none = (refl, refl)
-    wrote_lengths (some d) = same_lengths place.line place.tag d s.tables.tags s.tables.counts
+    wrote_lengths None = (refl, refl)
+    wrote_lengths (Some d) = same_lengths place.line place.tag d s.tables.tags s.tables.counts
 
     wrote_once : (n : Option ℤ) → Once (wrote n).tags (wrote n).counts
-    wrote_once none = i.sound.once
-    wrote_once (some d) = once_after s.tables.tags s.tables.counts i.sound.once place.line place.tag d
+    wrote_once None = i.sound.once
+    wrote_once (Some d) = once_after s.tables.tags s.tables.counts i.sound.once place.line place.tag d
 
     run_judged : Run x start judged_state (judged_event ∷ h)
     run_judged =

@@ -3,11 +3,11 @@
 -- Assumes nothing.
 use mathlib.Core.Bool.{◌&&◌, cond}
 use mathlib.Core.List.{List, [], ◌∷◌, ◌++◌}
-use mathlib.Core.Option.{Option, none, some}
 use mathlib.Core.Path.{◌≡◌, refl, ap, subst, ◌∙◌}
 use Prim.Native.Nat.{ℕ, zero, suc, ◌+◌, ◌*◌, ◌^◌, ◌≤◌, ◌<◌, min}
 use lib.Dec.{eqb}
 use lib.ListN.{length}
+use Rattle.std.specs.Prelude.{Option, None, Some}
 use Rattle.laws.proofs.Signed.{up, dn}
 use Rattle.tables.specs.Clock.{multiples_passed}
 use Rattle.rulings.specs.declared.answers.Answer.{Answer}
@@ -28,9 +28,9 @@ use Rattle.books.proofs.Packets.{stepped_packet}
 -- the packets of an address that were answered 4, each by its weight
 module _ (site : Site) where
   abbrev four_by : ℕ → Option JudgedPacket → ℕ
-  four_by address none = 0
-  four_by address (some it) =
-      cond (eqb (cell_address (packet_in site it)) address && tells 4 (some it.verdict)) (site.rules.weight (packet_in site it).header) 0
+  four_by address None = 0
+  four_by address (Some it) =
+      cond (eqb (cell_address (packet_in site it)) address && tells 4 (Some it.verdict)) (site.rules.weight (packet_in site it).header) 0
 
   abbrev pub fours : ℕ → List Event → ℕ
   fours address [] = 0
@@ -119,9 +119,9 @@ module _ (x : Setup) (start : Start) where
       where
         go : (verdict : Option ℕ) → Rightly x start older (judgement_by time bytes verdict)
             → is_fresh site start time (ours_of site bytes) verdict older ≡ tells 4 verdict
-        go none right = refl
-        go (some zero) right = refl
-        go (some (suc n)) right = right.0
+        go None right = refl
+        go (Some zero) right = refl
+        go (Some (suc n)) right = right.0
 
     -- so as many are answered 4 as are fresh
     pub answered : (calls : List Call) → AllFit x calls → (address : ℕ) → fresh_contacts site start address (happened calls) ≡ fours site address (happened calls)
@@ -131,8 +131,8 @@ module _ (x : Setup) (start : Start) where
         λ j. answered calls fit.1 address j + one (told (event_of site (leaves calls) call)).judged (last call calls fit.0 fit.1).rightly j
       where
         one : (judged : Option JudgedPacket) → Rightly x start (happened calls) judged → fresh_by site start address judged (happened calls) ≡ four_by site address judged
-        one none right = refl
-        one (some it) right = λ j. cond (eqb (cell_address (packet_in site it)) address && right.0 j) (r.weight (packet_in site it).header) 0
+        one None right = refl
+        one (Some it) right = λ j. cond (eqb (cell_address (packet_in site it)) address && right.0 j) (r.weight (packet_in site it).header) 0
 
     -- The bound of demand 3, from any start: "the first T becomes T less the smaller of T and the count held there" (document 02, K6), which
     -- for a count below 0 is T and as much again as it is below.
@@ -149,7 +149,7 @@ module _ (x : Setup) (start : Start) where
     -- No packet is dropped as blocked before enough fresh contacts of its address were forwarded, from any start: "blocking needs T less
     -- that count, or T where the count is negative".
     pub not_before : (calls : List Call) → AllFit x calls → (newer older : List Event) (time : ℕ) (bytes : List ℕ) (answered : Answer)
-        → happened calls ≡ newer ++ (judged_at time bytes answered ∷ older) → verdict_told answered ≡ some 6 → Enough x start bytes older
+        → happened calls ≡ newer ++ (judged_at time bytes answered ∷ older) → verdict_told answered ≡ Some 6 → Enough x start bytes older
     not_before calls fit newer older time bytes answered e six =
         (subst (λ (verdict : Option ℕ). Rightly x start older (judgement_by time bytes verdict)) six
         (rightly_at calls fit newer older (judged_at time bytes answered) e)).1 refl

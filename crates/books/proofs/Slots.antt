@@ -3,13 +3,13 @@
 -- Assumes nothing.
 use mathlib.Core.Bool.{Bool, true, false, not, ◌&&◌, ◌||◌, cond}
 use mathlib.Core.List.{List, [], ◌∷◌}
-use mathlib.Core.Option.{Option, some}
 use mathlib.Core.Path.{◌≡◌, refl, sym, ap, subst, ◌∙◌}
 use Prim.Native.Nat.{ℕ, zero, suc, ◌+◌, ◌≤◌, ◌<◌}
 use native.Mathlib.Nat.{le_trans}
 use native.Mathlib.Omega.{arith}
 use lib.Dec.{leb}
 use borrow.Author.Tests.{leb-true, le-leb, lt-leb}
+use Rattle.std.specs.Prelude.{Option, Some}
 use Rattle.laws.proofs.Tests.{Which, below, above, which, true_is_not_false, is_false, and_left, and_right, and_yes}
 use Rattle.records.specs.declared.Marks.{Marks}
 use Rattle.records.specs.Records.{plant_seen, cell_seen, marks_of, record_of, age_of, is_unmarked, is_cold, aged_by}
@@ -27,7 +27,7 @@ use Rattle.books.proofs.Apart.{twice_not}
 -- ---- verdicts: 4 is the only one that forwards a cell packet on a record with neither mark
 -- a verdict's number, as an answer tells it
 abbrev pub told_of : Verdict → Option ℕ
-told_of verdict = some (number_of verdict)
+told_of verdict = Some (number_of verdict)
 
 abbrev pub is_four : Verdict → Bool
 is_four verdict = tells 4 (told_of verdict)

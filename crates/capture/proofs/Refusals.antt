@@ -3,12 +3,11 @@
 -- Assumes nothing.
 use mathlib.Core.Bool.{Bool, true, false, cond}
 use mathlib.Core.List.{List}
-use mathlib.Core.Option.{none, some}
 use mathlib.Core.Path.{◌≡◌, refl}
 use Prim.Native.Nat.{ℕ, ◌+◌}
 use lib.Dec.{ltb, leb}
 use lib.ListN.{length}
-use Rattle.std.specs.Prelude.{Ok, Err}
+use Rattle.std.specs.Prelude.{Ok, Err, None, Some}
 use Rattle.refused.specs.declared.Refusal.TheVariants as refusal
 use Rattle.refused.specs.Refused.{refusal_in}
 use Rattle.words.specs.Words.{stored}
@@ -33,7 +32,7 @@ fits bytes at room = leb (at + length bytes) (length room)
 
 pub record Tells (refusal : ℕ) (bytes : List ℕ) (at : ℕ) (room : List ℕ) (after : Put) : Type 0 where
   pub number : refusal_in after.answer ≡ refusal
-  pub place : place_told after.answer ≡ cond (ltb 0 refusal) none (some (at + length bytes))
+  pub place : place_told after.answer ≡ cond (ltb 0 refusal) None (Some (at + length bytes))
   pub left : after.room ≡ cond (ltb 0 refusal) room (stored bytes at room)
 
 bytes_tell : (bytes : List ℕ) (at : ℕ) (room : List ℕ) → Tells (cond (fits bytes at room) 0 9) bytes at room (bytes_put bytes at room)

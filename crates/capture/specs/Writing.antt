@@ -1,7 +1,6 @@
 -- Document 02, K1: "a capture writer: pcap 2.4, little-endian, link type 1, into lent room", and its refusals 8 and 9.
 -- Assumes nothing.
-use Rattle.std.specs.Prelude.{false, cond, List, [], ◌∷◌, ℕ, ◌+◌, ltb, leb, length, Result, Ok, Err}
-use Rattle.std.proofs.Math.Option.{Option, none, some}
+use Rattle.std.specs.Prelude.{false, cond, List, [], ◌∷◌, ℕ, ◌+◌, ltb, leb, length, Result, Ok, Err, Option, None, Some}
 use Rattle.refused.specs.declared.Refusal.{Refusal}
 use Rattle.refused.specs.declared.Refusal.TheVariants as refusal
 use Rattle.words.specs.Words.{stored}
@@ -42,5 +41,5 @@ capture_put records at room = records_put records (header_put at room)
 
 -- the place after what was written, if it was
 abbrev pub place_told : Result ℕ Refusal → Option ℕ
-place_told (Err refused) = none
-place_told (Ok at) = some at
+place_told (Err refused) = None
+place_told (Ok at) = Some at

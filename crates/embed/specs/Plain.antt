@@ -1,7 +1,6 @@
 -- Answers as plain numbers, for programs in C and Rust. A number that an answer does not have is 0.
 -- Assumes nothing.
-use Rattle.std.specs.Prelude.{false, List, ℕ, zero, suc, ℤ, pos}
-use Rattle.std.proofs.Math.Option.{Option, none}
+use Rattle.std.specs.Prelude.{false, List, ℕ, zero, suc, ℤ, pos, Option, None}
 use Rattle.rulings.specs.declared.answers.Replacement.{Replacement}
 use Rattle.rulings.specs.declared.answers.Replacement.TheVariants.{None, Address}
 use Rattle.rulings.specs.declared.answers.Answer.{Answer}
@@ -51,7 +50,7 @@ plain_answer (Judged verdict count replaced) = plain_judged (number_of verdict) 
 -- the verdict that an answer in plain numbers tells, whoever wrote it
 abbrev pub by_refusal : ℕ → ℕ → Option ℕ
 by_refusal zero verdict = verdict_numbered verdict
-by_refusal (suc n) verdict = none
+by_refusal (suc n) verdict = None
 
 abbrev pub verdict_in : PlainAnswer → Option ℕ
 verdict_in answer = by_refusal answer.refusal answer.verdict

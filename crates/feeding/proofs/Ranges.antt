@@ -3,7 +3,6 @@
 -- Assumes nothing.
 use mathlib.Core.Bool.{Bool, true, false, cond, ◌||◌}
 use mathlib.Core.List.{List, [], ◌∷◌, map}
-use mathlib.Core.Option.{none}
 use mathlib.Core.Path.{◌≡◌, refl, sym, subst}
 use Prim.Native.Nat.{ℕ, zero, suc, ◌+◌, ◌*◌, ◌^◌, ◌≤◌, ◌<◌}
 use native.Mathlib.Omega.{arith}
@@ -160,7 +159,7 @@ module _ (limits : Limits) (floor_short : Short limits.floor) where
   ruling_short h from_plant byte count c = by (verdict_by (rules_of limits) h from_plant byte count) (is_unmarked (marks_of byte))
     where
       by : (verdict : Verdict) (unmarked : Bool)
-          → Short (counted_by count (count_written limits.floor 1 1 (cond unmarked none none) verdict count)).count
+          → Short (counted_by count (count_written limits.floor 1 1 (cond unmarked None None) verdict count)).count
       by Uncounted unmarked = c
       by CreditOfOne unmarked = lowered_short 1 limits.floor count floor_short c
       by CreditOfTwo unmarked = lowered_short 2 limits.floor count floor_short c

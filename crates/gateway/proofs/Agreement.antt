@@ -2,7 +2,6 @@
 -- Assumes nothing.
 use mathlib.Core.Bool.{Bool, true, false, not, cond}
 use mathlib.Core.List.{List}
-use mathlib.Core.Option.{Option, none, some, none-ne-some}
 use mathlib.Core.Path.{◌≡◌, refl, sym, ap, ◌∙◌}
 use Prim.Native.Nat.{ℕ, zero, suc}
 use lib.IntN.{ℤ}
@@ -23,7 +22,7 @@ use Rattle.records.specs.declared.Marks.{Marks}
 use Rattle.records.specs.Records.{plant_seen, cell_seen}
 use Rattle.tables.specs.Tables.{Tables}
 use Rattle.entries.specs.Entries.{Written, written, written_of}
-use Rattle.std.specs.Prelude.{None}
+use Rattle.std.specs.Prelude.{None, Option, Some}
 use Rattle.verdicts.specs.declared.Verdict.{Verdict}
 use Rattle.verdicts.specs.declared.Verdict.TheVariants.{Uncounted, CreditOfOne, CreditOfTwo, FreshContact, Hygiene, Blocked}
 use Rattle.verdicts.specs.Verdicts.{number_of, is_forwarded, is_closing, from_the_plant, verdict_of}
@@ -52,12 +51,12 @@ use Rattle.gateway.specs.Why.{met_in, drop_of, why_ours, why_by_direction, unles
 pub record Agrees (told : Explanation) (given : Answer) : Type 0 where
   pub refusal : refusal_explained told ≡ refusal_told given
   pub verdict : verdict_explained told ≡ verdict_told given
-  pub count : (count : ℤ) → count_explained told ≡ some count → count_told given ≡ some count
-  pub replaced : (count : ℤ) → count_explained told ≡ some count → replaced_told given ≡ none
+  pub count : (count : ℤ) → count_explained told ≡ Some count → count_told given ≡ Some count
+  pub replaced : (count : ℤ) → count_explained told ≡ Some count → replaced_told given ≡ None
 
 -- where no count is told the numbers say it all
 numbers_agree : {told : Explanation} {given : Answer} → refusal_explained told ≡ refusal_told given → verdict_explained told ≡ verdict_told given
-    → count_explained told ≡ none → Agrees told given
+    → count_explained told ≡ None → Agrees told given
 numbers_agree r v n =
     record {
       refusal = r;
@@ -87,7 +86,7 @@ module _ (limits : Limits) (cell plant : List ℕ) where
         record {
           refusal = refl;
           verdict = refl;
-          count = λ count told. ap some nothing.2 ∙ told;
+          count = λ count told. ap Some nothing.2 ∙ told;
           replaced = λ count told. ap address_told (replaced_by nothing.1);
         }
       where
@@ -125,8 +124,8 @@ module _ (limits : Limits) (cell plant : List ℕ) where
 
 -- ---- what is told of a drop
 abbrev pub is_some : {A : Type 0} → Option A → Bool
-is_some none = false
-is_some (some a) = true
+is_some None = false
+is_some (Some a) = true
 
 -- the four facts of a packet that was dropped
 abbrev pub facts_in : Drop → Facts
@@ -149,8 +148,8 @@ pub record TrueOf (limits : Limits) (cell plant : List ℕ) (drop : Drop) : Type
   pub plant_bytes : StandsIn (winner_of cell plant drop.header.destination) drop.plant_entry
 
 abbrev pub TrueWhere : Limits → List ℕ → List ℕ → Option Drop → Type 0
-TrueWhere limits cell plant none = Unit {0}
-TrueWhere limits cell plant (some drop) = TrueOf limits cell plant drop
+TrueWhere limits cell plant None = Unit {0}
+TrueWhere limits cell plant (Some drop) = TrueOf limits cell plant drop
 
 pub record AllTrue (limits : Limits) (cell plant : List ℕ) (told : Explanation) : Type 0 where
   -- "Verdicts 0 to 4 get the verdict alone": why is told of 5 and 6, and of no other and no refusal
@@ -170,7 +169,7 @@ plant_passes blocked marks kind = go marks.plant marks.cell (is_closing kind)
     go false false closing = refl
 
 -- "5 dropped, hygiene. 6 dropped, blocked.": no other verdict is
-dropped_by_number : (verdict : Verdict) → is_drop_number (some (number_of verdict)) ≡ not (is_forwarded verdict)
+dropped_by_number : (verdict : Verdict) → is_drop_number (Some (number_of verdict)) ≡ not (is_forwarded verdict)
 dropped_by_number Uncounted = refl
 dropped_by_number CreditOfOne = refl
 dropped_by_number CreditOfTwo = refl

@@ -3,10 +3,10 @@
 -- Assumes nothing.
 use mathlib.Core.Bool.{Bool, true, false}
 use mathlib.Core.List.{List}
-use mathlib.Core.Option.{some}
 use mathlib.Core.Path.{◌≡◌, refl}
 use Prim.Native.Nat.{ℕ}
 use lib.ListN.{length}
+use Rattle.std.specs.Prelude.{Some}
 use Rattle.settings.specs.declared.Limits.{Limits}
 use Rattle.packet.specs.declared.kinds.Kind.TheVariants.{Opening}
 use Rattle.packet.specs.Header.{header_of}
@@ -48,6 +48,6 @@ module _ (rules : Rules) (limits : Limits) (time : ℕ) (bytes : List ℕ) (befo
 
   pub opens_nothing : (cell plant : List ℕ) → packet_refusal limits cell plant time bytes before ≡ 0
       → direction_in cell plant (header_of bytes) ≡ FromCell → Opens bytes → BlockedThen
-      → verdict_told (judged rules limits cell plant time bytes before).answer ≡ some 6
+      → verdict_told (judged rules limits cell plant time bytes before).answer ≡ Some 6
   unfolding judged by_direction ours ruling_of
   opens_nothing cell plant accepted from_cell opening blocked = rw (accepted, from_cell, blocked, opens bytes opening, opening_blocked)

@@ -5,12 +5,12 @@
 use mathlib.Core.Bool.{Bool, true, false, not, ◌&&◌, ◌||◌}
 use mathlib.Core.List.{List, [], ◌∷◌, ◌++◌}
 use mathlib.Core.Logic.{◌↔◌}
-use mathlib.Core.Option.{Option}
 use mathlib.Core.Path.{◌≡◌, refl, sym, ap, subst, ◌∙◌}
 use Prim.Native.Nat.{ℕ, ◌≤◌}
 use native.Mathlib.Omega.{arith}
 use lib.Dec.{leb}
 use borrow.Author.Tests.{leb-true, le-leb, not-true}
+use Rattle.std.specs.Prelude.{Option}
 use Rattle.laws.proofs.Tests.{true_is_not_false, is_false, and_left, and_right, and_yes}
 use Rattle.tables.specs.Clock.{multiples_passed}
 use Rattle.gateway.specs.Calls.{State}

@@ -1,8 +1,7 @@
 -- Small histories, made by hand, and what document 01's section "Fresh, from history" says of each: F, H, R and D. A slot is here the plant
 -- address modulo 16, so that it can be seen; Dconn is 10, Dmiss 60, and the start is at second 100.
 -- Assumes nothing.
-use Rattle.std.specs.Prelude.{cond, List, [], ◌∷◌, ℕ, ◌%◌, pos}
-use Rattle.std.proofs.Math.Option.{none}
+use Rattle.std.specs.Prelude.{cond, List, [], ◌∷◌, ℕ, ◌%◌, pos, None}
 use Rattle.settings.specs.declared.Settings.{Settings}
 use Rattle.settings.specs.Settings.{factory_settings, with_threshold}
 use Rattle.verdicts.specs.declared.Verdict.{Verdict}
@@ -26,7 +25,7 @@ rules =
       floor = settings.limits.floor;
       point = 1;
       weight = λ h. 1;
-      attempt = λ h count. none;
+      attempt = λ h count. None;
       slot = λ placing h from_plant records. cond from_plant h.source h.destination % records;
     }
 

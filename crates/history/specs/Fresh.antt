@@ -2,8 +2,7 @@
 -- answers, and from nothing that is stored. Each is counted over what the events tell. Where a history does not begin with a cold start,
 -- what was live then is the start's (`held`).
 -- Assumes nothing.
-use Rattle.std.specs.Prelude.{Bool, true, false, not, ◌&&◌, ◌||◌, cond, List, [], ◌∷◌, ◌++◌, ◌≡◌, ℕ, ◌+◌, ◌≤◌, leb, eqb}
-use Rattle.std.proofs.Math.Option.{Option, none, some}
+use Rattle.std.specs.Prelude.{Bool, true, false, not, ◌&&◌, ◌||◌, cond, List, [], ◌∷◌, ◌++◌, ◌≡◌, ℕ, ◌+◌, ◌≤◌, leb, eqb, Option, None, Some}
 use Rattle.laws.specs.Times.{times_in}
 use Rattle.packet.specs.declared.Header.{Header}
 use Rattle.packet.specs.Header.{header_of}
@@ -33,8 +32,8 @@ closes_from_plant packet = packet.from_plant && is_closing packet.header.transpo
 -- ---- verdicts, as they are told, by document 01's numbers
 -- whether it is this number that was told
 abbrev pub tells : ℕ → Option ℕ → Bool
-tells number none = false
-tells number (some verdict) = eqb verdict number
+tells number None = false
+tells number (Some verdict) = eqb verdict number
 
 -- a packet of ours was forwarded: "1 forwarded .. 2 forwarded .. 3 forwarded .. 4 forwarded"
 abbrev pub forwards : Option ℕ → Bool
@@ -79,8 +78,8 @@ replacements address (event ∷ before) = replacements address before + times_in
 
 -- ---- the clock: the time that it was last set to, and before that the start's
 abbrev pub or_before : Option ℕ → ℕ → ℕ
-or_before none before = before
-or_before (some time) before = time
+or_before None before = before
+or_before (Some time) before = time
 
 abbrev pub clock_after : ℕ → List Event → ℕ
 clock_after began [] = began
@@ -96,9 +95,9 @@ module _ (site : Site) where
 
   -- the packets forwarded on a slot
   abbrev pub forwarded_by : ℕ → Option JudgedPacket → List Forwarded → List Forwarded
-  forwarded_by slot none before = before
-  forwarded_by slot (some it) before =
-      cond (forwards (some it.verdict) && eqb (slot_for (packet_in it)) slot)
+  forwarded_by slot None before = before
+  forwarded_by slot (Some it) before =
+      cond (forwards (Some it.verdict) && eqb (slot_for (packet_in it)) slot)
       (record { time = it.time; packet = packet_in it } ∷ before)
       before
 
@@ -115,8 +114,8 @@ module _ (site : Site) where
 
   -- H, for an address
   abbrev pub credit_by : ℕ → Option JudgedPacket → ℕ
-  credit_by address none = 0
-  credit_by address (some it) = cond (eqb (cell_address (packet_in it)) address) (credit_of (some it.verdict)) 0
+  credit_by address None = 0
+  credit_by address (Some it) = cond (eqb (cell_address (packet_in it)) address) (credit_of (Some it.verdict)) 0
 
   abbrev pub credits : ℕ → List Event → ℕ
   credits address [] = 0
@@ -138,9 +137,9 @@ module _ (site : Site) where
 
     -- F: the fresh contacts of an address that were forwarded, each by its weight, which by document 01's rules is 1
     abbrev pub fresh_by : ℕ → Option JudgedPacket → List Event → ℕ
-    fresh_by address none before = 0
-    fresh_by address (some it) before =
-        cond (eqb (cell_address (packet_in it)) address && is_fresh it.time (packet_in it) (some it.verdict) before)
+    fresh_by address None before = 0
+    fresh_by address (Some it) before =
+        cond (eqb (cell_address (packet_in it)) address && is_fresh it.time (packet_in it) (Some it.verdict) before)
         (site.rules.weight (packet_in it).header)
         0
 

@@ -1,8 +1,7 @@
 -- What an event tells, by document 01's numbers. The clock, the life of a slot, F, D, H and R are made of what events tell, and never ask of
 -- what sort these are.
 -- Assumes nothing.
-use Rattle.std.specs.Prelude.{List, [], ◌∷◌, ℕ, zero, suc}
-use Rattle.std.proofs.Math.Option.{Option, none, some}
+use Rattle.std.specs.Prelude.{List, [], ◌∷◌, ℕ, zero, suc, Option, None, Some}
 use Rattle.rulings.specs.Answers.{refusal_told, verdict_told, replaced_told}
 use Rattle.gateway.specs.Calls.{refusal_in}
 use Rattle.history.specs.Runs.{Event, judged_at, passed_at, explained_at}
@@ -22,22 +21,22 @@ pub record Told : Type 0 where
 
 -- a call that is not refused sets the clock to its time
 abbrev pub time_set : ℕ → ℕ → Option ℕ
-time_set zero time = some time
-time_set (suc number) time = none
+time_set zero time = Some time
+time_set (suc number) time = None
 
 -- "0 not ours", and 1 to 6 for a packet of ours
 abbrev pub judgement_by : ℕ → List ℕ → Option ℕ → Option JudgedPacket
-judgement_by time bytes none = none
-judgement_by time bytes (some zero) = none
-judgement_by time bytes (some (suc n)) = some (record { time = time; bytes = bytes; verdict = suc n })
+judgement_by time bytes None = None
+judgement_by time bytes (Some zero) = None
+judgement_by time bytes (Some (suc n)) = Some (record { time = time; bytes = bytes; verdict = suc n })
 
 abbrev pub one_or_none : Option ℕ → List ℕ
-one_or_none none = []
-one_or_none (some address) = address ∷ []
+one_or_none None = []
+one_or_none (Some address) = address ∷ []
 
 -- nothing but a time, if any
 abbrev only_time : Option ℕ → Told
-only_time clock = record { clock = clock; judged = none; lost = [] }
+only_time clock = record { clock = clock; judged = None; lost = [] }
 
 -- the question why passes no time
 abbrev pub told : Event → Told
@@ -48,4 +47,4 @@ told (judged_at time bytes answered) =
       lost = one_or_none (replaced_told answered);
     }
 told (passed_at time reply) = only_time (time_set (refusal_in reply) time)
-told (explained_at time bytes why) = only_time none
+told (explained_at time bytes why) = only_time None

@@ -2,7 +2,6 @@
 -- Assumes nothing.
 use mathlib.Core.Bool.{Bool, true, false, cond}
 use mathlib.Core.List.{List, [], ◌∷◌, ◌++◌}
-use mathlib.Core.Option.{none}
 use mathlib.Core.Path.{◌≡◌, refl, ap, ◌∙◌}
 use Prim.Native.Nat.{ℕ, zero, suc, ◌+◌, ◌/◌, ◌%◌, ◌^◌, ◌≤◌, ◌<◌}
 use native.Mathlib.Omega.{arith}
@@ -12,6 +11,7 @@ use lib.IntN.{ℤ, pos, negsuc, nat_abs}
 use lib.ListN.{length, take, drop, set, length-append, length-set}
 use lib.Seq.{sets, sets-eq}
 use borrow.Author.Tests.{lt-ltb, ltb-false}
+use Rattle.std.specs.Prelude.{None}
 use Rattle.rulings.specs.declared.answers.Answer.{Answer}
 use Rattle.rulings.specs.declared.answers.Answer.TheVariants.{Refused, NotOurs, Judged}
 use Rattle.rulings.specs.declared.answers.Replacement.TheVariants.{None, Address}
@@ -26,7 +26,7 @@ use Rattle.lines.specs.Room.{room_of, put_byte, put}
 stored : (text : List ℕ) (at : ℕ) (bytes : List ℕ) → at + length text ≤ length bytes
     → put text (room_of at bytes) ≡ room_of (at + length text) (sets bytes at text)
 unfolding put put_byte
-stored [] at bytes h = let none : at + 0 ≡ at = omega arith in rw none
+stored [] at bytes h = let nothing : at + 0 ≡ at = omega arith in rw nothing
 stored (byte ∷ text) at bytes h =
     let next : at + 1 ≡ suc at = omega arith in
     let all : suc at + length text ≡ at + suc (length text) = omega arith in
@@ -113,7 +113,7 @@ answer_short : (answer : Answer) → InRange answer → length (answer_text answ
 unfolding digits_in
 answer_short (Refused number) h = omega (arith, few number 2 number (omega (arith, h)))
 answer_short NotOurs h = omega arith
-answer_short (Judged verdict count None) h = judged_short verdict count (or_dash dotted none) h (omega arith)
+answer_short (Judged verdict count None) h = judged_short verdict count (or_dash dotted None) h (omega arith)
 answer_short (Judged verdict count (Address address)) h =
     judged_short verdict count (dotted address) h.0 (dotted_short address h.1)
 

@@ -1,7 +1,6 @@
 -- Numbers and addresses as text, in ASCII.
 -- Assumes nothing.
-use Rattle.std.specs.Prelude.{cond, List, [], ◌∷◌, ◌++◌, ℕ, zero, suc, ◌+◌, ◌/◌, ◌%◌, ltb, ℤ, pos, negsuc}
-use Rattle.std.proofs.Math.Option.{Option, none, some}
+use Rattle.std.specs.Prelude.{cond, List, [], ◌∷◌, ◌++◌, ℕ, zero, suc, ◌+◌, ◌/◌, ◌%◌, ltb, ℤ, pos, negsuc, Option, None, Some}
 
 abbrev pub space : ℕ
 space = 32
@@ -36,5 +35,5 @@ dotted address =
 
 -- "-" for a value that has none
 abbrev pub or_dash : {A : Type 0} → (A → List ℕ) → Option A → List ℕ
-or_dash text none = dash ∷ []
-or_dash text (some value) = text value
+or_dash text None = dash ∷ []
+or_dash text (Some value) = text value

@@ -2,11 +2,11 @@
 -- Assumes nothing.
 use mathlib.Core.Bool.{true, not}
 use mathlib.Core.List.{List, ◌∷◌, ◌++◌}
-use mathlib.Core.Option.{Option, none, some}
 use mathlib.Core.Path.{◌≡◌, refl, sym, ap, ◌∙◌}
 use Prim.Native.Nat.{ℕ, ◌<◌}
 use lib.ListN.{get_or}
 use borrow.Author.Tests.{eqb-true, not-true}
+use Rattle.std.specs.Prelude.{Option, None, Some}
 use Rattle.laws.proofs.Tests.{true_is_not_false}
 use Rattle.rulings.specs.declared.answers.Answer.{Answer}
 use Rattle.rulings.specs.Answers.{verdict_told}
@@ -21,9 +21,9 @@ use Rattle.promises.specs.Memory.{state_after_all, forwarded_at, Memory}
 use Rattle.promises.proofs.Cold.{setup, good_first, all_fit}
 
 -- a number that is told is that number
-told_is : (number : ℕ) (told : Option ℕ) → tells number told ≡ true → told ≡ some number
-told_is number none e = true_is_not_false e refl
-told_is number (some n) e = ap some (eqb-true n number e)
+told_is : (number : ℕ) (told : Option ℕ) → tells number told ≡ true → told ≡ Some number
+told_is number None e = true_is_not_false e refl
+told_is number (Some n) e = ap Some (eqb-true n number e)
 
 module _ (g : Gateway) (cold : StartsCold g) (calls : List Call) (bytes : OfBytes calls) where
   -- by addresses: as many are answered 4 as are fresh

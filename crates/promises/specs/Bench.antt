@@ -1,7 +1,6 @@
 -- Document 01, "Bench examples": the numbered ones, as one table. Each row has what the definitions give and what the document says.
 -- Assumes nothing.
-use Rattle.std.specs.Prelude.{Bool, true, false, List, [], ◌∷◌, ◌++◌, map, ℕ, ℤ, pos, replicate}
-use Rattle.std.proofs.Math.Option.{none}
+use Rattle.std.specs.Prelude.{Bool, true, false, List, [], ◌∷◌, ◌++◌, map, ℕ, ℤ, pos, replicate, None}
 use Rattle.laws.specs.Signed.{minus}
 use Rattle.permute.specs.Permutation.{E}
 use Rattle.places.specs.Places.{slot_of, place_of}
@@ -81,7 +80,7 @@ table =
     -- The same at count 5: verdict 6, count 5
     row 8 (ruled Udp (marks false false) (pos 5)) (pos 6 ∷ pos 5 ∷ []) ∷
     -- Cmin -20, count -19, verdict 3: count -20
-    row 9 ((counted_by (minus 19) (count_written (minus 20) 1 1 none CreditOfTwo (minus 19))).count ∷ []) (minus 20 ∷ []) ∷
+    row 9 ((counted_by (minus 19) (count_written (minus 20) 1 1 None CreditOfTwo (minus 19))).count ∷ []) (minus 20 ∷ []) ∷
     -- Dmiss 60, count 3: second 59 to 60 gives 2; 60 to 119 keeps 3; 0 to 600 gives 0. Count -4 stays
     row 10 (count_later (pos 3) 59 60 ++ (count_later (pos 3) 60 119 ++ (count_later (pos 3) 0 600 ++ count_later (minus 4) 0 600)))
     (pos 2 ∷ pos 3 ∷ pos 0 ∷ minus 4 ∷ []) ∷

@@ -3,8 +3,7 @@
 -- of its is dropped as blocked until at least T of its fresh contacts were forwarded. Fresh is judged from the packet history by document
 -- 01, not from stored marks."
 -- Assumes nothing.
-use Rattle.std.specs.Prelude.{List, [], ◌∷◌, ◌++◌, ◌≡◌, ℕ, ◌+◌, ◌*◌, ◌^◌, ◌≤◌, ◌<◌, length}
-use Rattle.std.proofs.Math.Option.{some}
+use Rattle.std.specs.Prelude.{List, [], ◌∷◌, ◌++◌, ◌≡◌, ℕ, ◌+◌, ◌*◌, ◌^◌, ◌≤◌, ◌<◌, length, Some}
 use Rattle.settings.specs.declared.Settings.{Settings}
 use Rattle.tables.specs.Tables.{Tables}
 use Rattle.rulings.specs.declared.answers.Answer.{Answer}
@@ -91,5 +90,5 @@ module _ (g : Gateway) where
     -- "no packet of its is dropped as blocked until at least T of its fresh contacts were forwarded": wherever 6 was answered, by what
     -- came before
     pub not_before : (after before : List Event) (time : ℕ) (bytes : List ℕ) (answered : Answer)
-        → happened calls ≡ after ++ (judged_at time bytes answered ∷ before) → verdict_told answered ≡ some 6
+        → happened calls ≡ after ++ (judged_at time bytes answered ∷ before) → verdict_told answered ≡ Some 6
         → least ≤ F (cell_address (ours_of site bytes)) before

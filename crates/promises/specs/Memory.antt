@@ -2,8 +2,7 @@
 -- boundaries since the last packet forwarded there. So no remembered connection outlasts Dconn boundaries. And in every run a packet is
 -- answered 4 exactly if it is a fresh contact.
 -- Assumes nothing.
-use Rattle.std.specs.Prelude.{false, List, ◌∷◌, ◌++◌, ◌↔◌, ◌≡◌, ℕ, ◌<◌, get_or}
-use Rattle.std.proofs.Math.Option.{some}
+use Rattle.std.specs.Prelude.{false, List, ◌∷◌, ◌++◌, ◌↔◌, ◌≡◌, ℕ, ◌<◌, get_or, Some}
 use Rattle.records.specs.Records.{is_cold, age_of}
 use Rattle.tables.specs.Clock.{multiples_passed}
 use Rattle.rulings.specs.declared.answers.Answer.{Answer}
@@ -33,4 +32,4 @@ module _ (g : Gateway) where
     -- "4 forwarded, fresh contact": wherever a packet was answered, by what came before
     pub four_exactly_if_fresh : (after before : List Event) (time : ℕ) (bytes : List ℕ) (answered : Answer)
         → happened g calls ≡ after ++ (judged_at time bytes answered ∷ before)
-        → (verdict_told answered ≡ some 4) ↔ Fresh (site g) time (ours_of (site g) bytes) (verdict_told answered) before
+        → (verdict_told answered ≡ Some 4) ↔ Fresh (site g) time (ours_of (site g) bytes) (verdict_told answered) before

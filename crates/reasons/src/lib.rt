@@ -35,21 +35,13 @@ pub struct Drop {
     pub plant_entry: Entry,
 }
 
-// What the gateway answers to the question why: a refusal's number alone; that the packet is not ours; the verdict alone of one that is
+// What the gateway answers to the question why, where it does not refuse it: that the packet is not ours; the verdict alone of one that is
 // forwarded; or why it was dropped.
 #[derive(Clone, Copy)]
 pub enum Explanation {
-    Refused(u8),
     NotOurs,
     Forwarded(Verdict),
     Dropped(Drop),
-}
-
-// Whether it was asked why a packet is dropped, and what was answered.
-#[derive(Clone, Copy)]
-pub enum Asked {
-    Nothing,
-    Why(Explanation),
 }
 
 // Whether a packet from the cell is forwarded, by whether its address is blocked, its record's marks and its kind.

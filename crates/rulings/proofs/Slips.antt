@@ -1,10 +1,10 @@
 -- Document 01, "Easy slips", of rulings: by its rules a dropped packet leaves record and count, and writes no entry.
 -- Assumes nothing.
 use mathlib.Core.Bool.{Bool, false, cond}
-use mathlib.Core.Option.{Option, none}
 use mathlib.Core.Path.{◌≡◌, refl, sym, ap, ◌∙◌}
 use Prim.Native.Nat.{ℕ}
 use lib.IntN.{ℤ}
+use Rattle.std.specs.Prelude.{Option, None}
 use Rattle.laws.proofs.Tests.{true_is_not_false}
 use Rattle.settings.specs.declared.Limits.{Limits}
 use Rattle.packet.specs.declared.Header.{Header}
@@ -19,7 +19,7 @@ use Rattle.verdicts.specs.Verdicts.{is_forwarded}
 
 -- a dropped packet writes no count
 drop_writes : (floor : ℤ) (point weight : ℕ) (verdict : Verdict) (count : ℤ) → is_forwarded verdict ≡ false
-    → count_written floor point weight none verdict count ≡ none
+    → count_written floor point weight None verdict count ≡ None
 unfolding count_written
 drop_writes floor point weight Uncounted count d = true_is_not_false refl d
 drop_writes floor point weight CreditOfOne count d = true_is_not_false refl d
@@ -29,7 +29,7 @@ drop_writes floor point weight Hygiene count d = refl
 drop_writes floor point weight Blocked count d = refl
 
 none_written : (floor : ℤ) (cold : Bool) (verdict : Verdict) (count : ℤ) → is_forwarded verdict ≡ false
-    → count_written floor 1 1 (cond cold none none) verdict count ≡ none
+    → count_written floor 1 1 (cond cold None None) verdict count ≡ None
 none_written floor cold verdict count d =
     ap (λ (a : Option ℤ). count_written floor 1 1 a verdict count) (sym (no_attempt cold)) ∙ drop_writes floor 1 1 verdict count d
 

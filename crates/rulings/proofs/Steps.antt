@@ -1,10 +1,10 @@
 -- The steps by which the code finds a ruling come to what the definition says.
 -- Assumes nothing.
 use mathlib.Core.Bool.{Bool, true, false, cond}
-use mathlib.Core.Option.{Option, none}
 use mathlib.Core.Path.{◌≡◌, refl, ap, ◌∙◌}
 use Prim.Native.Nat.{ℕ}
 use lib.IntN.{ℤ}
+use Rattle.std.specs.Prelude.{Option, None}
 use Rattle.settings.specs.declared.Limits.{Limits}
 use Rattle.packet.specs.declared.Header.{Header}
 use Rattle.records.specs.declared.Marks.{Marks}
@@ -19,20 +19,20 @@ use Rattle.verdicts.specs.Verdicts.{verdict_of, record_after}
 
 -- ---- the ruling, by the gateway's rules
 -- an attempt that is dropped writes nothing, whatever the marks
-pub no_attempt : (cold : Bool) → none ≡ cond {A = Option ℤ} cold none none
+pub no_attempt : (cold : Bool) → None ≡ cond {A = Option ℤ} cold None None
 no_attempt true = refl
 no_attempt false = refl
 
 pub ruled : (limits : Limits) (h : Header) (from_plant : Bool) (byte : ℕ) (count : ℤ) {blocked : Bool} {marks : Marks} {verdict : Verdict} {new : ℕ} {after : Counted}
     → blocked ≡ is_blocked limits.threshold count → marks ≡ marks_of byte → verdict ≡ verdict_of from_plant blocked marks h.transport.kind
     → new ≡ record_after from_plant h.transport.kind verdict byte
-    → after ≡ counted_by count (count_written limits.floor 1 1 none verdict count)
+    → after ≡ counted_by count (count_written limits.floor 1 1 None verdict count)
     → record { verdict = verdict; byte = new; writes = after.writes; count = after.count } ≡ ruling_of (rules_of limits) h from_plant byte count
 unfolding ruling_of
 ruled limits h from_plant byte count {blocked} {marks} {verdict} {new} {after} b m v n a =
     (λ i. record { verdict = verdict; byte = n i; writes = (a i).writes; count = (a i).count })
     ∙ (λ i. made (no_attempt (is_unmarked (marks_of byte)) i) verdict)
-    ∙ ap (made (cond (is_unmarked (marks_of byte)) none none)) (v ∙ (λ i. verdict_of from_plant (b i) (m i) h.transport.kind))
+    ∙ ap (made (cond (is_unmarked (marks_of byte)) None None)) (v ∙ (λ i. verdict_of from_plant (b i) (m i) h.transport.kind))
   where
     made : Option ℤ → Verdict → Ruling
     made attempt x =

@@ -1,7 +1,6 @@
 -- What the rules of a gateway are made of, and its own, by what they depend on. The gateway's step is defined over any rules.
 -- Assumes nothing.
-use Rattle.std.specs.Prelude.{Bool, cond, ℕ, ℤ}
-use Rattle.std.proofs.Math.Option.{Option, none}
+use Rattle.std.specs.Prelude.{Bool, cond, ℕ, ℤ, Option, None}
 use Rattle.packet.specs.declared.Header.{Header}
 use Rattle.packet.specs.Kinds.{port_of}
 use Rattle.places.specs.declared.Placing.{Placing}
@@ -43,6 +42,6 @@ rules_of limits =
       floor = limits.floor;
       point = 1;
       weight = λ h. 1;
-      attempt = λ h count. none;
+      attempt = λ h count. None;
       slot = slot_rule;
     }

@@ -1,7 +1,6 @@
 -- Document 01, "Verdicts": all that follows for a packet of ours from its record and its cell address's count, by given rules.
 -- Assumes nothing.
-use Rattle.std.specs.Prelude.{Bool, true, false, cond, ℕ, ◌*◌, ℤ, pos}
-use Rattle.std.proofs.Math.Option.{Option, none, some}
+use Rattle.std.specs.Prelude.{Bool, true, false, cond, ℕ, ◌*◌, ℤ, pos, Option, None, Some}
 use Rattle.packet.specs.declared.Header.{Header}
 use Rattle.records.specs.Records.{marks_of, is_unmarked}
 use Rattle.counts.specs.Counts.{is_blocked, lowered_by, raised_by}
@@ -16,17 +15,17 @@ use Rattle.verdicts.specs.Verdicts.{verdict_of, record_after}
 -- write an entry": the count that is written, if one is. A packet dropped as blocked writes what its attempt does, which under document
 -- 01's rules is none.
 unfoldable pub count_written : ℤ → ℕ → ℕ → Option ℤ → Verdict → ℤ → Option ℤ
-count_written floor point weight attempted Uncounted count = none
-count_written floor point weight attempted CreditOfOne count = some (lowered_by point floor count)
-count_written floor point weight attempted CreditOfTwo count = some (lowered_by (2 * point) floor count)
-count_written floor point weight attempted FreshContact count = some (raised_by weight (pos 32767) count)
-count_written floor point weight attempted Hygiene count = none
+count_written floor point weight attempted Uncounted count = None
+count_written floor point weight attempted CreditOfOne count = Some (lowered_by point floor count)
+count_written floor point weight attempted CreditOfTwo count = Some (lowered_by (2 * point) floor count)
+count_written floor point weight attempted FreshContact count = Some (raised_by weight (pos 32767) count)
+count_written floor point weight attempted Hygiene count = None
 count_written floor point weight attempted Blocked count = attempted
 
 -- whether a count is written, and the one that the address then has
 abbrev pub counted_by : ℤ → Option ℤ → Counted
-counted_by count none = record { writes = false; count = count }
-counted_by count (some new) = record { writes = true; count = new }
+counted_by count None = record { writes = false; count = count }
+counted_by count (Some new) = record { writes = true; count = new }
 
 module _ (rules : Rules) (h : Header) (from_plant : Bool) (byte : ℕ) (count : ℤ) where
   -- the verdict by the record and the count that the packet meets
@@ -35,7 +34,7 @@ module _ (rules : Rules) (h : Header) (from_plant : Bool) (byte : ℕ) (count : 
 
   abbrev pub new_count : Option ℤ
   new_count =
-      count_written rules.floor rules.point (rules.weight h) (cond (is_unmarked (marks_of byte)) (rules.attempt h count) none) verdict_by count
+      count_written rules.floor rules.point (rules.weight h) (cond (is_unmarked (marks_of byte)) (rules.attempt h count) None) verdict_by count
 
   unfoldable pub ruling_of : Ruling
   ruling_of =

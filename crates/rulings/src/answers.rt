@@ -1,21 +1,14 @@
-// What the gateway answers to a packet.
+// What the gateway answers to a packet that it does not refuse.
 use verdicts::Verdict;
 
-// The address that lost its entry to the packet's.
-#[derive(Clone, Copy)]
-pub enum Replacement {
-    None,
-    Address(u32),
-}
-
-// A refusal's number alone; that the packet is not ours; or the verdict, its cell address's count after it, and the replaced address.
+// That the packet is not ours; or the verdict, its cell address's count after it, and the address that lost its entry to the packet's.
+// Kept: with an Option the first would be None, which says less than that it has verdict 0, not ours.
 #[derive(Clone, Copy)]
 pub enum Answer {
-    Refused(u8),
     NotOurs,
     Judged {
         verdict: Verdict,
         count: i16,
-        replaced: Replacement,
+        replaced: Option<u32>,
     },
 }

@@ -1,7 +1,7 @@
 // All that a packet of ours gets: its verdict, and what follows for its record and its cell address's count. Nothing here touches a table.
 #![tactic(auto)]
 
-ghost use Rattle.std.proofs.Math.Option.{none};
+ghost use Rattle.std.specs.Prelude.{None};
 ghost use Rattle.std.specs.Prelude.{◌≡◌};
 ghost use Rattle.rulings.specs.Rules.{rules_of};
 ghost use Rattle.rulings.specs.Rulings.{count_written, counted_by, ruling_of};
@@ -30,7 +30,7 @@ struct Counted {
 
 // What a verdict makes of a count.
 fn count_after(verdict: Verdict, count: i16, floor: i16) -> Counted
-    ensures { result ≡ counted_by count (count_written floor 1 1 none verdict count) }
+    ensures { result ≡ counted_by count (count_written floor 1 1 None verdict count) }
 {
     match verdict {
         Verdict::Uncounted => Counted {

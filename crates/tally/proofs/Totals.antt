@@ -1,13 +1,13 @@
 -- What one answer does to each of the seven totals.
 -- Assumes nothing.
 use mathlib.Core.Logic.{◌≢◌}
-use mathlib.Core.Option.{some}
 use mathlib.Core.Path.{◌≡◌, refl}
 use Prim.Native.Nat.{ℕ, ◌<◌, ◌≤◌}
 use native.Mathlib.Omega.{arith}
 use borrow.Author.Tests.{le-leb, lt-leb}
 use lib.ListN.{length, get_or}
 use lib.Seq.{get_or-set_same, get_or-set_other}
+use Rattle.std.specs.Prelude.{Some}
 use Rattle.verdicts.specs.declared.Verdict.{Verdict}
 use Rattle.verdicts.specs.declared.Verdict.TheVariants.{Uncounted, CreditOfOne, CreditOfTwo, FreshContact, Hygiene, Blocked}
 use Rattle.rulings.specs.declared.answers.Answer.TheVariants.{Refused}
@@ -26,12 +26,12 @@ has_total Hygiene = omega arith
 has_total Blocked = omega arith
 
 -- so a verdict's number is that verdict, and a number over 6 is none
-pub is_numbered : (v : Verdict) → verdict_numbered (number_of v) ≡ some (number_of v)
+pub is_numbered : (v : Verdict) → verdict_numbered (number_of v) ≡ Some (number_of v)
 unfolding verdict_numbered
 is_numbered v = rw (le-leb (number_of v) 6 (omega (arith, has_total v)))
 
 module _ (t : Tally) (n : ℕ) where
-  pub one_of_seven : n ≤ 6 → tallied t (verdict_numbered n) ≡ tallied t (some n)
+  pub one_of_seven : n ≤ 6 → tallied t (verdict_numbered n) ≡ tallied t (Some n)
   unfolding verdict_numbered
   one_of_seven h = rw (le-leb n 6 h)
 
@@ -50,11 +50,11 @@ stops = refl
 
 module _ (t : Tally) (v : ℕ) where
   -- "one 32-bit total per verdict": a verdict's own is one more
-  pub one_total : length t.totals ≡ 7 → v < 7 → get_or (tallied t (some v)).totals v 0 ≡ one_more (get_or t.totals v 0)
+  pub one_total : length t.totals ≡ 7 → v < 7 → get_or (tallied t (Some v)).totals v 0 ≡ one_more (get_or t.totals v 0)
   unfolding tallied
   one_total e h = get_or-set_same t.totals v _ 0 (omega (arith, e))
 
   -- every other is as it was
-  pub others_stay : (w : ℕ) → w ≢ v → get_or (tallied t (some v)).totals w 0 ≡ get_or t.totals w 0
+  pub others_stay : (w : ℕ) → w ≢ v → get_or (tallied t (Some v)).totals w 0 ≡ get_or t.totals w 0
   unfolding tallied
   others_stay w ne = get_or-set_other t.totals v w _ 0 ne

@@ -2,12 +2,12 @@
 -- and a minute boundary after the first of them tell it from each.
 -- Assumes nothing.
 use mathlib.Core.List.{List}
-use mathlib.Core.Option.{Option, none, some}
 use mathlib.Core.Path.{◌≡◌, refl, ap, ◌∙◌}
 use Prim.Native.Nat.{ℕ}
 use native.Mathlib.Omega.{arith}
 use lib.IntN.{pos}
 use lib.ListN.{get_or}
+use Rattle.std.specs.Prelude.{Option, None, Some}
 use Rattle.laws.specs.Times.{times, how_many}
 use Rattle.laws.proofs.Signed.{dn}
 use Rattle.settings.specs.Settings.{bad_limits}
@@ -29,8 +29,8 @@ use Rattle.witnesses.proofs.Tight.{state_before, judged_here, opening_rows, open
 
 -- a number that tells verdicts apart
 abbrev number_in : Option ℕ → ℕ
-number_in none = 0
-number_in (some n) = n
+number_in None = 0
+number_in (Some n) = n
 
 abbrev verdict : After Answer → ℕ
 verdict after = number_in (verdict_told after.answer)
@@ -96,21 +96,21 @@ module _ (g : AnyGateway) (m : MeetsContracts g) where
           ap verdict (by_contract (syn 1 6379) cold),
           contact.1,
         ));
-        tables_by_packets = λ none. absurd (omega (
+        tables_by_packets = λ None. absurd (omega (
           arith,
-          ap slot8 (none gateway.settings.limits gateway.cell gateway.plant 100 (syn 1 6379) cold),
+          ap slot8 (None gateway.settings.limits gateway.cell gateway.plant 100 (syn 1 6379) cold),
           ap (λ (a : After Answer). slot8 a.state.tables) (by_contract (syn 1 6379) cold),
           contact.2,
         ));
-        tables_by_time = λ none. absurd (omega (
+        tables_by_time = λ None. absurd (omega (
           arith,
-          ap slot8 (none gateway.settings.limits 120 marked),
+          ap slot8 (None gateway.settings.limits 120 marked),
           ap (λ (a : After Reply). slot8 a.state.tables) (m.of_pass gateway.settings.limits 120 marked),
           older,
         ));
-        tables_by_starts = λ none. absurd (omega (
+        tables_by_starts = λ None. absurd (omega (
           arith,
-          ap below (none gateway.settings 100 gateway.tables gateway.clock),
+          ap below (None gateway.settings 100 gateway.tables gateway.clock),
           ap (λ (s : State). below s.tables) started_cold,
         ));
         not_repeated = λ repeats. absurd (omega (

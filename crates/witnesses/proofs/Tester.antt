@@ -2,8 +2,8 @@
 -- mark. So the tester's SYN+FIN is dropped as blocked.
 -- Assumes nothing.
 use mathlib.Core.Bool.{true, false}
-use mathlib.Core.Option.{some}
 use mathlib.Core.Path.{◌≡◌, refl}
+use Rattle.std.specs.Prelude.{Some}
 use Rattle.laws.specs.Search.{every, first_below, foremost}
 use Rattle.laws.specs.Times.{times, how_many}
 use Rattle.settings.specs.declared.Limits.{Limits}
@@ -52,5 +52,5 @@ pub plant_mark : let record-met = record_met (spot_then (rules_of limits) limits
 unfolding times how_many first_below slot_of transport_of header_of multiples_passed time_passed aged_by decayed_by
 plant_mark = rw (permuted.plant, permuted.plant_and_1, permuted.slot_1_6379) refl
 
-pub dropped : verdict_told (judged (rules_of limits) limits gateway.cell gateway.plant 100 syn_fin state).answer ≡ some 6
+pub dropped : verdict_told (judged (rules_of limits) limits gateway.cell gateway.plant 100 syn_fin state).answer ≡ Some 6
 dropped = opens_nothing (rules_of limits) limits 100 syn_fin state gateway.cell gateway.plant accepted from_cell opening blocked

@@ -2,8 +2,7 @@
 -- no table, one that judges the first packet and repeats itself (demand 2 excludes all four)". Each is said of any gateway whatever, by its
 -- answers and by what it leaves, and of one that meets the contracts it is not so (`must_not_pass`, proofs/MustNotPass).
 -- Assumes nothing.
-use Rattle.std.specs.Prelude.{List, ◌≡◌, ℕ, ◌<◌}
-use Rattle.std.proofs.Math.Option.{some}
+use Rattle.std.specs.Prelude.{List, ◌≡◌, ℕ, ◌<◌, Some}
 use Rattle.settings.specs.declared.Limits.{Limits}
 use Rattle.settings.specs.declared.Settings.{Settings}
 use Rattle.tables.specs.Tables.{Tables}
@@ -38,7 +37,7 @@ module _ (g : AnyGateway) where
   abbrev pub SaysOneToAll : Type 0
   SaysOneToAll =
       (limits : Limits) (cell plant : List ℕ) (time : ℕ) (bytes : List ℕ) (before : State)
-      → verdict_told (g.judge limits cell plant time bytes before).answer ≡ some 1
+      → verdict_told (g.judge limits cell plant time bytes before).answer ≡ Some 1
 
   -- "one that touches no table": by a packet, by a time alone, by a cold start
   abbrev pub TouchesNoTableByPackets : Type 0
