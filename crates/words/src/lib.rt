@@ -2,55 +2,47 @@
 // no room, none is stored.
 #![tactic(auto)]
 
-ghost use Rattle.std.specs.Prelude.{true, ◌≡◌, ◌+◌, leb};
-ghost use Rattle.words.specs.Words.{of_two, of_four, two_at, four_at, two_in, four_in, whole, two_bytes, four_bytes, stored};
-
-// The number that two bytes make, the most significant first.
-fn of_two(first: u8, second: u8) -> u16
-    ensures { result ≡ of_two first second }
-{
-    (first as u16) * 256 + (second as u16)
-}
+ghost use Rattle.std.specs.Prelude.{true, ◌≡◌, ◌+◌, ◌<◌, ◌≤◌, length, take, drop, leb, MatchOption};
+ghost use Rattle.words.specs.Words.{of_four, two_at, four_at, two_in, four_in, whole, two_bytes, four_bytes, stored};
 
 // The number that four bytes make, the most significant first.
 pub fn of_four(first: u8, second: u8, third: u8, fourth: u8) -> u32
     ensures { result ≡ of_four first second third fourth }
 {
-    (first as u32) * 16777216 + (second as u32) * 65536 + (third as u32) * 256 + (fourth as u32)
+    u32::from_be_bytes([first, second, third, fourth])
+}
+
+// The N bytes at a place; none where they are not all there.
+fn bytes_at<const N: usize>(bytes: &[u8], at: usize) -> Option<&[u8; N]>
+    ensures cases { MatchOption result (length bytes.now < at + N) (λ y. (at + N ≤ length bytes.now) × (y.now ≡ take N (drop at bytes.now))) }
+{
+    bytes.get(at..)?.first_chunk()
 }
 
 // The number that the two bytes at a place make, the most significant first where big_endian, and else the least; 0 where they are not
 // all there.
+#[tactic(auto, unfolding(crate::specs::Words::whole))]
 pub fn two_in(bytes: &[u8], at: usize, big_endian: bool) -> u16
     ensures { result ≡ whole 2 (two_in big_endian) bytes.now at }
 {
-    if bytes.len() < 2 {
-        return 0;
+    match bytes_at::<2>(bytes, at) {
+        Some(two) if big_endian => u16::from_be_bytes(*two),
+        Some(two) => u16::from_le_bytes(*two),
+        None => 0,
     }
-    if bytes.len() - 2 < at {
-        return 0;
-    }
-    if big_endian {
-        return of_two(bytes[at], bytes[at + 1]);
-    }
-    of_two(bytes[at + 1], bytes[at])
 }
 
 // The number that the four bytes at a place make, the most significant first where big_endian, and else the least; 0 where they are not
 // all there.
+#[tactic(auto, unfolding(crate::specs::Words::whole))]
 pub fn four_in(bytes: &[u8], at: usize, big_endian: bool) -> u32
     ensures { result ≡ whole 4 (four_in big_endian) bytes.now at }
 {
-    if bytes.len() < 4 {
-        return 0;
+    match bytes_at::<4>(bytes, at) {
+        Some(four) if big_endian => u32::from_be_bytes(*four),
+        Some(four) => u32::from_le_bytes(*four),
+        None => 0,
     }
-    if bytes.len() - 4 < at {
-        return 0;
-    }
-    if big_endian {
-        return of_four(bytes[at], bytes[at + 1], bytes[at + 2], bytes[at + 3]);
-    }
-    of_four(bytes[at + 3], bytes[at + 2], bytes[at + 1], bytes[at])
 }
 
 // The number that the two bytes at a place make, the most significant first; 0 where they are not all there.
@@ -71,19 +63,16 @@ pub fn four_at(bytes: &[u8], at: usize) -> u32
 pub fn has_room(length: usize, at: usize, count: usize) -> bool
     ensures { result ≡ leb (at + count) length }
 {
-    if length < count {
-        return false;
-    }
-    at <= length - count
+    length.checked_sub(count).is_some_and(|left| at <= left)
 }
 
 // Stores bytes in the room from a place on: all of them where they have room, and else none.
+#[tactic(auto, unfolding(crate::specs::Words::stored))]
 pub fn store(room: &mut [u8], at: usize, source: &[u8])
     ensures { room.new ≡ stored source.now at room.old }
 {
     if has_room(room.len(), at, source.len()) {
-        let end = at + source.len();
-        room[at..end].copy_from_slice(source);
+        room[at..at + source.len()].copy_from_slice(source);
     }
 }
 
@@ -92,13 +81,12 @@ pub fn store(room: &mut [u8], at: usize, source: &[u8])
 pub fn store_two(room: &mut [u8], at: usize, number: u16, big_endian: bool)
     ensures { room.new ≡ stored (two_bytes big_endian number) at room.old }
 {
-    let high = (number / 256 % 256) as u8;
-    let low = (number % 256) as u8;
-    if big_endian {
-        store(room, at, &[high, low]);
+    let two = if big_endian {
+        number.to_be_bytes()
     } else {
-        store(room, at, &[low, high]);
-    }
+        number.to_le_bytes()
+    };
+    store(room, at, &two);
 }
 
 // Stores the four bytes of a number from a place on, the most significant first where big_endian, and else the least; none where they
@@ -106,13 +94,10 @@ pub fn store_two(room: &mut [u8], at: usize, number: u16, big_endian: bool)
 pub fn store_four(room: &mut [u8], at: usize, number: u32, big_endian: bool)
     ensures { room.new ≡ stored (four_bytes big_endian number) at room.old }
 {
-    let first = (number / 16777216 % 256) as u8;
-    let second = (number / 65536 % 256) as u8;
-    let third = (number / 256 % 256) as u8;
-    let fourth = (number % 256) as u8;
-    if big_endian {
-        store(room, at, &[first, second, third, fourth]);
+    let four = if big_endian {
+        number.to_be_bytes()
     } else {
-        store(room, at, &[fourth, third, second, first]);
-    }
+        number.to_le_bytes()
+    };
+    store(room, at, &four);
 }
