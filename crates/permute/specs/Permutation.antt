@@ -1,6 +1,6 @@
 -- Document 01, "Permutation, slot and line": the permutation.
 -- Assumes nothing.
-use Rattle.std.specs.Prelude.{ℕ, zero, suc, ◌+◌, ◌-◌, ◌*◌, ◌/◌, ◌%◌, ◌^◌, ◌<◌, List, [], ◌∷◌, slice_index, slice_index_or}
+use Rattle.std.specs.Prelude.{ℕ, zero, suc, ◌+◌, ◌-◌, ◌*◌, ◌/◌, ◌%◌, ◌^◌, List, [], ◌∷◌, slice_index, slice_index_or}
 
 -- what a list has at n
 abbrev pub at : List ℕ → ℕ → ℕ
@@ -9,11 +9,6 @@ at l n = slice_index l n
 -- "The eight S-boxes stand as a table of tables": what the row of S-box r has at n
 abbrev pub box : List (List ℕ) → ℕ → ℕ → ℕ
 box table r = at (slice_index_or table r [])
-
--- row r is there, and has a nibble at each nibble
-pub record SmallRow (table : List (List ℕ)) (r : ℕ) : Type 0 where
-  pub there : r < 8
-  pub small : (n : ℕ) → n < 16 → box table r n < 16
 
 unfoldable pub boxes : List (List ℕ)
 boxes =

@@ -1,11 +1,58 @@
 // The address permutation E, and its inverse.
 #![tactic(auto)]
 
-ghost use Rattle.std.specs.Prelude.{◌≡◌, ◌<◌};
-ghost use Rattle.permute.specs.Permutation.{box, SmallRow, boxes, inverses, nibbles, left11, right11, round, unround, E, D};
+ghost use Rattle.std.specs.Prelude.{◌≡◌, ℕ, ◌<◌};
+ghost use Rattle.permute.specs.Permutation.{at, nibbles, round, unround, E, D};
 
-// S-box r stands in row r. The name of a constant table makes a copy of it, so it is named once for a run of rounds, and lent.
-const BOXES: [[u8; 16]; 8] = [
+// An S-box, lent by its table: what it has at each nibble, which is a nibble too.
+#[derive(Clone, Copy)]
+struct Sbox<'a> {
+    images: &'a [u8; 16],
+    ghost small: { (n : ℕ) → n < 16 → at images.now n < 16 },
+}
+
+impl Sbox<'_> {
+    // What the box has at a nibble.
+    fn image(self, nibble: u32) -> u32
+        requires { nibble < 16 }
+        ensures { (result ≡ at self.entry.images.now nibble) × (result < 16) }
+    {
+        self.images[nibble as usize] as u32
+    }
+
+    // The four lowest nibbles of a word, each replaced by what the box has there. No term waits for another.
+    fn half(self, word: u32) -> u32
+        ensures { (result ≡ nibbles 4 (at self.entry.images.now) word) × (result < 65536) }
+    {
+        self.image(word % 16)
+            + self.image(word / 16 % 16) * 16
+            + self.image(word / 256 % 16) * 256
+            + self.image(word / 4096 % 16) * 4096
+    }
+
+    // Each of the eight nibbles of a word replaced by what the box has there.
+    fn substituted(self, word: u32) -> u32
+        ensures { result ≡ nibbles 8 (at self.entry.images.now) word }
+    {
+        self.half(word) + self.half(word / 65536) * 65536
+    }
+
+    // One round with its key; and one round undone.
+    fn one_round(self, key: u32, word: u32) -> u32
+        ensures { result ≡ round (at self.entry.images.now) key word }
+    {
+        self.substituted(word.wrapping_add(key)).rotate_left(11)
+    }
+
+    fn one_round_back(self, key: u32, word: u32) -> u32
+        ensures { result ≡ unround (at self.entry.images.now) key word }
+    {
+        self.substituted(word.rotate_right(11)).wrapping_sub(key)
+    }
+}
+
+// S-box r stands in row r.
+static BOXES: [[u8; 16]; 8] = [
     [3, 8, 15, 1, 10, 6, 5, 11, 14, 13, 4, 2, 7, 0, 9, 12],
     [15, 12, 2, 7, 9, 0, 5, 10, 1, 11, 14, 8, 6, 13, 3, 4],
     [8, 6, 7, 9, 3, 12, 10, 15, 13, 1, 14, 4, 0, 11, 5, 2],
@@ -17,7 +64,7 @@ const BOXES: [[u8; 16]; 8] = [
 ];
 
 // The inverse of S-box r stands in row r.
-const INVERSES: [[u8; 16]; 8] = [
+static INVERSES: [[u8; 16]; 8] = [
     [13, 3, 11, 0, 10, 6, 5, 12, 1, 14, 4, 7, 15, 9, 8, 2],
     [5, 8, 2, 14, 15, 6, 12, 3, 11, 4, 7, 9, 1, 13, 10, 0],
     [12, 9, 15, 4, 11, 14, 1, 2, 0, 3, 6, 13, 5, 8, 10, 7],
@@ -28,97 +75,25 @@ const INVERSES: [[u8; 16]; 8] = [
     [3, 0, 6, 13, 9, 14, 15, 8, 5, 12, 11, 7, 10, 1, 4, 2],
 ];
 
-// What a table has for a round at a nibble, which is a nibble too.
-fn image(table: &[[u8; 16]; 8], r: usize, nibble: u32) -> u32
-    requires { (SmallRow table.now r) × (nibble < 16) }
-    ensures { (result ≡ box table.now r nibble) × (result < 16) }
-{
-    let n = nibble as usize;
-    table[r][n] as u32
-}
-
-// The four lowest nibbles of a word, each replaced by what the table has there. No term waits for another.
-fn half(table: &[[u8; 16]; 8], r: usize, word: u32) -> u32
-    requires { SmallRow table.now r }
-    ensures { (result ≡ nibbles 4 (box table.now r) word) × (result < 65536) }
-{
-    image(table, r, word % 16)
-        + image(table, r, word / 16 % 16) * 16
-        + image(table, r, word / 256 % 16) * 256
-        + image(table, r, word / 4096 % 16) * 4096
-}
-
-// Each of the eight nibbles of a word replaced by what the table has there.
-fn substituted(table: &[[u8; 16]; 8], r: usize, word: u32) -> u32
-    requires { SmallRow table.now r }
-    ensures { result ≡ nibbles 8 (box table.now r) word }
-{
-    half(table, r, word) + half(table, r, word / 65536) * 65536
-}
-
-// A rotation to the left by 11 places, and back.
-fn rotated_left(word: u32) -> u32
-    ensures { result ≡ left11 word }
-{
-    word % 2097152 * 2048 + word / 2097152
-}
-
-fn rotated_right(word: u32) -> u32
-    ensures { result ≡ right11 word }
-{
-    word % 2048 * 2097152 + word / 2048
-}
-
-// One round with its key; and one round undone.
-fn one_round(table: &[[u8; 16]; 8], r: usize, key: u32, word: u32) -> u32
-    requires { SmallRow table.now r }
-    ensures { result ≡ round (box table.now r) key word }
-{
-    rotated_left(substituted(table, r, std::num::wrapping_add_u32(word, key)))
-}
-
-fn one_round_back(table: &[[u8; 16]; 8], r: usize, key: u32, word: u32) -> u32
-    requires { SmallRow table.now r }
-    ensures { result ≡ unround (box table.now r) key word }
-{
-    std::num::wrapping_sub_u32(substituted(table, r, rotated_right(word)), key)
-}
-
-// The rounds in their order on a lent table of S-boxes, and backward on one of their inverses.
-fn forward(table: &[[u8; 16]; 8], keys: &[u32; 8], word: u32) -> u32
-    requires { table.now ≡ boxes }
-    ensures { result ≡ E keys.now word }
-{
-    let mut y = word;
-    for r in 0..8usize {
-        y = one_round(table, r, keys[r], y);
-    }
-    y
-}
-
-fn backward(table: &[[u8; 16]; 8], keys: &[u32; 8], word: u32) -> u32
-    requires { table.now ≡ inverses }
-    ensures { result ≡ D keys.now word }
-{
-    let mut y = word;
-    let mut r = 8usize;
-    while 0 < r {
-        r -= 1;
-        y = one_round_back(table, r, keys[r], y);
-    }
-    y
-}
-
 // The permutation E of a word, under eight round keys.
 pub fn encrypt(keys: &[u32; 8], word: u32) -> u32
     ensures { result ≡ E keys.now word }
 {
-    forward(&BOXES, keys, word)
+    let mut y = word;
+    for (images, key) in BOXES.iter().zip(keys) {
+        y = Sbox { images }.one_round(*key, y);
+    }
+    y
 }
 
 // The inverse of E: the word whose permutation under these keys is this one.
 pub fn decrypt(keys: &[u32; 8], word: u32) -> u32
     ensures { result ≡ D keys.now word }
 {
-    backward(&INVERSES, keys, word)
+    let mut y = word;
+    for r in (0..8usize).rev() {
+        let images = &INVERSES[r];
+        y = Sbox { images }.one_round_back(keys[r], y);
+    }
+    y
 }
