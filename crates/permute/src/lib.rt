@@ -4,7 +4,8 @@
 ghost use Rattle.std.specs.Prelude.{◌≡◌, ℕ, ◌<◌};
 ghost use Rattle.permute.specs.Permutation.{at, nibbles, round, unround, E, D};
 
-// An S-box, lent by its table: what it has at each nibble, which is a nibble too.
+// An S-box, lent by its table: what it has at each nibble, which is a nibble too. (No static may hold boxes, as they have a ghost field,
+// and the name of a constant makes a copy of it.)
 #[derive(Clone, Copy)]
 struct Sbox<'a> {
     images: &'a [u8; 16],
@@ -91,6 +92,7 @@ pub fn decrypt(keys: &[u32; 8], word: u32) -> u32
     ensures { result ≡ D keys.now word }
 {
     let mut y = word;
+    // Kept: the index r, as `INVERSES.iter().zip(keys).rev()` was not proved: of a zip's end the library has no lemma.
     for r in (0..8usize).rev() {
         let images = &INVERSES[r];
         y = Sbox { images }.one_round_back(keys[r], y);
