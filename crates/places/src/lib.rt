@@ -13,15 +13,13 @@ pub struct Placing {
 }
 
 // The slot of a connection among a number of records; among none, the word itself. Any word may stand in the port's place.
+#[tactic(auto, unfolding(crate::specs::Places::slot_of))]
 pub fn slot(keys: &[u32; 8], plant: u32, cell: u32, port: u32, records: u32) -> u32
     ensures { result ≡ slot_of keys.now plant cell port records }
 {
     let pair = permute::encrypt(keys, permute::encrypt(keys, plant) ^ cell);
     let word = permute::encrypt(keys, pair ^ port);
-    if records == 0 {
-        return word;
-    }
-    word % records
+    word.checked_rem(records).unwrap_or(word)
 }
 
 // Where the address table keeps an address: in which line, and under which tag.
@@ -32,28 +30,27 @@ pub struct Place {
 }
 
 // The line and tag of an address among a number of lines; with none, the word itself and tag 0.
+#[tactic(auto, unfolding(crate::specs::Places::place_of))]
 pub fn place_of(keys: &[u32; 8], address: u32, lines: u32) -> Place
     ensures { result ≡ place_of keys.now address lines }
 {
     let word = permute::encrypt(keys, address);
-    if lines == 0 {
-        return Place { line: word, tag: 0 };
-    }
     Place {
-        line: word % lines,
-        tag: word / lines,
+        line: word.checked_rem(lines).unwrap_or(word),
+        tag: word.checked_div(lines).unwrap_or(0),
     }
 }
 
 // The address that a line and a tag name among a number of lines; with none, that of the line as a word.
+#[tactic(auto, unfolding(crate::specs::Places::address_of))]
 pub fn address_of(keys: &[u32; 8], place: Place, lines: u32) -> u32
     ensures { result ≡ address_of keys.now place lines }
 {
     if lines == 0 {
         return permute::decrypt(keys, place.line);
     }
-    let each = lines as u64;
-    let tags = 4294967296 / each;
-    let word = place.tag as u64 % tags * each + place.line as u64;
+    let lines = u64::from(lines);
+    let tags = 4294967296 / lines;
+    let word = u64::from(place.tag) % tags * lines + u64::from(place.line);
     permute::decrypt(keys, (word % 4294967296) as u32)
 }

@@ -2,11 +2,16 @@
 -- Assumes nothing.
 use Rattle.std.proofs.Common.{◌≡◌, suc, ◌-◌, refl, arith}
 use Rattle.permute.specs.Permutation.{inverses, unrounds, D}
+use Rattle.permute.proofs.Tables.{inverses_undone}
 use Rattle.permute.proofs.decrypt.Goals as goal
 
 pub loop-r-init : goal.loop-r-init
 unfolding D
 loop-r-init c = refl
+
+pub invariant_of-one_round_back : goal.invariant_of-one_round_back
+unfolding inverses
+invariant_of-one_round_back c = record { small = (inverses_undone (c.loop-r.r - 1) (omega arith)).small }
 
 pub loop-r-preserved : goal.loop-r-preserved
 unfolding unrounds inverses
