@@ -11,10 +11,12 @@ use lib.IntN.{ℤ, pos, negsuc, nat_abs}
 use lib.ListN.{length, take, drop, set, length-append, length-set}
 use lib.Seq.{sets, sets-eq}
 use borrow.Author.Tests.{lt-ltb, ltb-false}
-use Rattle.std.specs.Prelude.{None}
+use Rattle.std.specs.Prelude.{None, Some, Result, Ok, Err}
+use Rattle.refused.specs.declared.Refusal.{Refusal}
+use Rattle.refused.specs.declared.Refusal.TheVariants.{Settings, Sizes, Lists, Time, Short, Header, Capture, Record, Room}
+use Rattle.refused.specs.Refused.{refusal_number}
 use Rattle.rulings.specs.declared.answers.Answer.{Answer}
-use Rattle.rulings.specs.declared.answers.Answer.TheVariants.{Refused, NotOurs, Judged}
-use Rattle.rulings.specs.declared.answers.Replacement.TheVariants.{None, Address}
+use Rattle.rulings.specs.declared.answers.Answer.TheVariants.{NotOurs, Judged}
 use Rattle.verdicts.specs.declared.Verdict.{Verdict}
 use Rattle.verdicts.specs.declared.Verdict.TheVariants.{Uncounted, CreditOfOne, CreditOfTwo, FreshContact, Hygiene, Blocked}
 use Rattle.verdicts.specs.Verdicts.{number_of}
@@ -55,11 +57,11 @@ few (suc steps) (suc k) n h = step steps (suc k) n (λ large. few steps k (n / 1
 
 -- ---- how long a line is
 -- what the types of an answer's parts say of them
-abbrev pub InRange : Answer → Type 0
-InRange (Refused number) = number < 2 ^ 8
-InRange NotOurs = Unit {0}
-InRange (Judged verdict count None) = nat_abs count ≤ 2 ^ 15
-InRange (Judged verdict count (Address address)) = (nat_abs count ≤ 2 ^ 15) × (address < 2 ^ 32)
+abbrev pub InRange : Result Answer Refusal → Type 0
+InRange (Err refusal) = Unit {0}
+InRange (Ok NotOurs) = Unit {0}
+InRange (Ok (Judged verdict count None)) = nat_abs count ≤ 2 ^ 15
+InRange (Ok (Judged verdict count (Some address))) = (nat_abs count ≤ 2 ^ 15) × (address < 2 ^ 32)
 
 pub signed_short : (count : ℤ) → nat_abs count ≤ 2 ^ 15 → length (signed count) ≤ 6
 signed_short (pos n) h = omega (arith, few n 4 n (omega (arith, h)))
@@ -109,19 +111,34 @@ judged_short verdict count replaced h g =
       length-append (signed count) (space ∷ replaced),
     )
 
-answer_short : (answer : Answer) → InRange answer → length (answer_text answer) ≤ 24
+-- a refusal's number has one digit
+pub refusal_digit : (refusal : Refusal) → length (decimal (refusal_number refusal)) ≤ 1
+refusal_digit refusal = few (refusal_number refusal) 0 (refusal_number refusal) (small refusal)
+  where
+    small : (r : Refusal) → refusal_number r < 10
+    small Settings = omega arith
+    small Sizes = omega arith
+    small Lists = omega arith
+    small Time = omega arith
+    small Short = omega arith
+    small Header = omega arith
+    small Capture = omega arith
+    small Record = omega arith
+    small Room = omega arith
+
+answer_short : (answer : Result Answer Refusal) → InRange answer → length (answer_text answer) ≤ 24
 unfolding digits_in
-answer_short (Refused number) h = omega (arith, few number 2 number (omega (arith, h)))
-answer_short NotOurs h = omega arith
-answer_short (Judged verdict count None) h = judged_short verdict count (or_dash dotted None) h (omega arith)
-answer_short (Judged verdict count (Address address)) h =
+answer_short (Err refusal) h = omega (arith, refusal_digit refusal)
+answer_short (Ok NotOurs) h = omega arith
+answer_short (Ok (Judged verdict count None)) h = judged_short verdict count (or_dash dotted None) h (omega arith)
+answer_short (Ok (Judged verdict count (Some address))) h =
     judged_short verdict count (dotted address) h.0 (dotted_short address h.1)
 
 pub long_number : (n : ℕ) → n < 2 ^ 64 → length (decimal n) ≤ 20
 long_number n h = few n 19 n (omega (arith, h))
 
 -- every line has room in 46 bytes
-pub line_short : (number : ℕ) (answer : Answer) → number < 2 ^ 64 → InRange answer → length (line number answer) ≤ 46
+pub line_short : (number : ℕ) (answer : Result Answer Refusal) → number < 2 ^ 64 → InRange answer → length (line number answer) ≤ 46
 line_short number answer h g =
     omega (
       arith,

@@ -1,8 +1,10 @@
 -- Document 01, "The printing program": its lines, byte for byte.
 -- Assumes nothing.
-use Rattle.std.specs.Prelude.{List, [], ◌∷◌, ◌++◌, ℕ}
+use Rattle.std.specs.Prelude.{List, [], ◌∷◌, ◌++◌, ℕ, Result, Ok, Err}
+use Rattle.refused.specs.declared.Refusal.{Refusal}
+use Rattle.refused.specs.Refused.{refusal_number}
 use Rattle.rulings.specs.declared.answers.Answer.{Answer}
-use Rattle.rulings.specs.declared.answers.Answer.TheVariants.{Refused, NotOurs, Judged}
+use Rattle.rulings.specs.declared.answers.Answer.TheVariants.{NotOurs, Judged}
 use Rattle.verdicts.specs.Verdicts.{number_of}
 use Rattle.rulings.specs.Answers.{count_told, replaced_told}
 use Rattle.lines.specs.Text.{space, decimal, signed, dotted, or_dash}
@@ -12,7 +14,7 @@ abbrev pub newline : ℕ
 newline = 10
 
 -- "verdict, count, replaced address in dotted form"
-abbrev pub verdict_text : ℕ → Answer → List ℕ
+abbrev pub verdict_text : ℕ → Result Answer Refusal → List ℕ
 verdict_text verdict answer =
     decimal verdict ++ (space ∷ (or_dash signed (count_told answer) ++ (space ∷ or_dash dotted (replaced_told answer))))
 
@@ -20,13 +22,13 @@ verdict_text verdict answer =
 abbrev pub refusal_text : ℕ → List ℕ
 refusal_text number = 82 ∷ (space ∷ decimal number)
 
-abbrev pub answer_text : Answer → List ℕ
-answer_text (Refused number) = refusal_text number
-answer_text NotOurs = verdict_text 0 NotOurs
-answer_text (Judged verdict count replaced) = verdict_text (number_of verdict) (Judged verdict count replaced)
+abbrev pub answer_text : Result Answer Refusal → List ℕ
+answer_text (Err refusal) = refusal_text (refusal_number refusal)
+answer_text (Ok NotOurs) = verdict_text 0 (Ok NotOurs)
+answer_text (Ok (Judged verdict count replaced)) = verdict_text (number_of verdict) (Ok (Judged verdict count replaced))
 
 -- "A line is: record number from 1", and what was answered
-abbrev pub line : ℕ → Answer → List ℕ
+abbrev pub line : ℕ → Result Answer Refusal → List ℕ
 line number answer = decimal number ++ (space ∷ (answer_text answer ++ (newline ∷ [])))
 
 -- "The last line is "end", records read whole, refusals."

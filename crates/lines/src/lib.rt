@@ -2,13 +2,14 @@
 // there is no room is left out, and the answer is the place after the last byte that was put.
 #![tactic(auto)]
 
-ghost use Rattle.std.specs.Prelude.{◌≡◌, ◌∷◌, ◌++◌, nat_abs};
-ghost use Rattle.rulings.specs.Answers.{address_told};
+ghost use Rattle.std.specs.Prelude.{◌≡◌, ◌∷◌, ◌++◌};
+ghost use Rattle.refused.specs.Refused.{refusal_number};
 ghost use Rattle.lines.specs.Text.{space, dot, decimal, signed, dotted, or_dash};
 ghost use Rattle.lines.specs.Lines.{refusal_text, answer_text, line, last_line};
 ghost use Rattle.lines.specs.Room.{lent_room, left_room, put_byte, put};
 
-use rulings::answers::{Answer, Replacement};
+use refused::Refusal;
+use rulings::answers::Answer;
 
 // Puts one byte, and answers the place after it.
 pub fn put_byte(room: &mut [u8], at: usize, byte: u8) -> usize
@@ -45,18 +46,6 @@ pub fn put_decimal(room: &mut [u8], at: usize, number: u64) -> usize
     put_byte(room, next, 48 + (number % 10) as u8)
 }
 
-// How far a count is from 0. In 32 bits -count fits, as it does not in 16.
-fn magnitude(count: i16) -> u64
-    ensures { result ≡ nat_abs count }
-{
-    let wide = count as i32;
-    if wide < 0 {
-        (-wide) as u64
-    } else {
-        wide as u64
-    }
-}
-
 // Puts a count, with its sign where it is below 0, and answers the place after it.
 #[tactic(auto, using(crate::proofs::Signs::put_below, crate::proofs::Signs::signed_above))]
 pub fn put_signed(room: &mut [u8], at: usize, count: i16) -> usize
@@ -64,9 +53,9 @@ pub fn put_signed(room: &mut [u8], at: usize, count: i16) -> usize
 {
     if count < 0 {
         let next = put_byte(room, at, b'-');
-        return put_decimal(room, next, magnitude(count));
+        return put_decimal(room, next, count.unsigned_abs() as u64);
     }
-    put_decimal(room, at, magnitude(count))
+    put_decimal(room, at, count.unsigned_abs() as u64)
 }
 
 // A further byte of an address, with the dot before it.
@@ -87,26 +76,26 @@ pub fn put_dotted(room: &mut [u8], at: usize, address: u32) -> usize
     put_part(room, next, (address % 256) as u64)
 }
 
-fn put_replaced(room: &mut [u8], at: usize, replaced: Replacement) -> usize
-    ensures { left_room room result ≡ put (or_dash dotted (address_told replaced)) (lent_room room at) }
+fn put_replaced(room: &mut [u8], at: usize, replaced: Option<u32>) -> usize
+    ensures { left_room room result ≡ put (or_dash dotted replaced) (lent_room room at) }
 {
     match replaced {
-        Replacement::None => put_byte(room, at, b'-'),
-        Replacement::Address(address) => put_dotted(room, at, address),
+        None => put_byte(room, at, b'-'),
+        Some(address) => put_dotted(room, at, address),
     }
 }
 
-fn put_refusal(room: &mut [u8], at: usize, number: u8) -> usize
-    ensures { left_room room result ≡ put (refusal_text number) (lent_room room at) }
+fn put_refusal(room: &mut [u8], at: usize, refusal: Refusal) -> usize
+    ensures { left_room room result ≡ put (refusal_text (refusal_number refusal)) (lent_room room at) }
 {
     let next = put_text(room, at, b"R ");
-    put_decimal(room, next, number as u64)
+    put_decimal(room, next, u8::from(refusal) as u64)
 }
 
 // A verdict's number, and a count and a replaced address after it.
-fn put_verdict(room: &mut [u8], at: usize, verdict: u8, count: i16, replaced: Replacement) -> usize
+fn put_verdict(room: &mut [u8], at: usize, verdict: u8, count: i16, replaced: Option<u32>) -> usize
     ensures { left_room room result
-        ≡ put (decimal verdict ++ (space ∷ (signed count ++ (space ∷ or_dash dotted (address_told replaced))))) (lent_room room at) }
+        ≡ put (decimal verdict ++ (space ∷ (signed count ++ (space ∷ or_dash dotted replaced)))) (lent_room room at) }
 {
     let next = put_decimal(room, at, verdict as u64);
     let next = put_byte(room, next, b' ');
@@ -115,22 +104,24 @@ fn put_verdict(room: &mut [u8], at: usize, verdict: u8, count: i16, replaced: Re
     put_replaced(room, next, replaced)
 }
 
-fn put_answer(room: &mut [u8], at: usize, answer: Answer) -> usize
+fn put_answer(room: &mut [u8], at: usize, answer: Result<Answer, Refusal>) -> usize
     ensures { left_room room result ≡ put (answer_text answer) (lent_room room at) }
 {
     match answer {
-        Answer::Refused(number) => put_refusal(room, at, number),
-        Answer::NotOurs => put_text(room, at, b"0 - -"),
-        Answer::Judged {
-            verdict,
-            count,
-            replaced,
-        } => put_verdict(room, at, verdicts::number(verdict), count, replaced),
+        Err(refusal) => put_refusal(room, at, refusal),
+        Ok(Answer::NotOurs) => put_text(room, at, b"0 - -"),
+        Ok(
+            Answer::Judged {
+                verdict,
+                count,
+                replaced,
+            },
+        ) => put_verdict(room, at, verdicts::number(verdict), count, replaced),
     }
 }
 
 // Puts the line of a record, by its number and what was answered. Answers the place after it in the room.
-pub fn put_line(room: &mut [u8], at: usize, number: u64, answer: Answer) -> usize
+pub fn put_line(room: &mut [u8], at: usize, number: u64, answer: Result<Answer, Refusal>) -> usize
     ensures { left_room room result ≡ put (line number answer) (lent_room room at) }
 {
     let next = put_decimal(room, at, number);

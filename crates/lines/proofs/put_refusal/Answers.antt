@@ -4,4 +4,4 @@ use Rattle.lines.proofs.Rooms.{text_then}
 use Rattle.lines.proofs.put_refusal.Goals as goal
 
 pub returns : goal.returns
-returns c = text_then _ _ _ c.put_text-next.ensures c.put_decimal.ensures
+returns c = text_then _ _ _ c.put_text-next.ensures (rw c.from.ensures at c.put_decimal.ensures)

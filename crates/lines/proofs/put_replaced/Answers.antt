@@ -6,5 +6,5 @@ use Rattle.lines.proofs.put_replaced.Goals as goal
 pub returns-in-None : goal.returns-in-None
 returns-in-None c = rw c.in-None.is (last_byte _ _ c.put_byte.ensures)
 
-pub returns-in-Address : goal.returns-in-Address
-returns-in-Address c = rw c.in-Address.is c.put_dotted.ensures
+pub returns-in-Some : goal.returns-in-Some
+returns-in-Some c = rw c.in-Some.is c.put_dotted.ensures
