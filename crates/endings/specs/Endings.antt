@@ -1,7 +1,8 @@
 -- Document 01, "The printing program": how what it prints ends. The program that writes a capture says the same on standard error.
 -- Assumes nothing.
-use Rattle.std.specs.Prelude.{ℕ, ◌+◌, ◌%◌, ◌^◌, Bool, cond, List, ◌++◌}
-use Rattle.rulings.specs.declared.answers.Answer.TheVariants.{Refused}
+use Rattle.std.specs.Prelude.{ℕ, ◌+◌, ◌%◌, ◌^◌, Bool, cond, List, ◌++◌, Err}
+use Rattle.refused.specs.declared.Refusal.{Refusal}
+use Rattle.refused.specs.declared.Refusal.TheVariants.{Record}
 use Rattle.lines.specs.Lines.{line, last_line}
 
 -- records and refusals are counted in 64 bits
@@ -12,9 +13,9 @@ one_more number = (number + 1) % 2 ^ 64
 abbrev pub ending : Bool → ℕ → ℕ → List ℕ
 ending refused records refusals =
     cond refused
-    (line (one_more records) (Refused 8) ++ last_line records (one_more refusals))
+    (line (one_more records) (Err Record) ++ last_line records (one_more refusals))
     (last_line records refusals)
 
 -- "Refusal 7 prints as record 0."
-abbrev pub header_refused : ℕ → List ℕ
-header_refused number = line 0 (Refused number) ++ last_line 0 1
+abbrev pub header_refused : Refusal → List ℕ
+header_refused refusal = line 0 (Err refusal) ++ last_line 0 1

@@ -5,7 +5,7 @@ ghost use Rattle.std.specs.Prelude.{◌≡◌};
 ghost use Rattle.lines.specs.Room.{lent_room, left_room, put};
 ghost use Rattle.endings.specs.Endings.{one_more, ending, header_refused};
 
-use rulings::answers::Answer;
+use refused::Refusal;
 
 // One more of what is counted in 64 bits; after the largest number comes 0.
 pub fn one_more(number: u64) -> u64
@@ -26,16 +26,16 @@ pub fn put_ending(
     ensures { left_room room result ≡ put (ending is_refused records refusals) (lent_room room at) }
 {
     if is_refused {
-        let next = lines::put_line(room, at, one_more(records), Answer::Refused(8));
+        let next = lines::put_line(room, at, one_more(records), Err(Refusal::Record));
         return lines::put_last_line(room, next, records, one_more(refusals));
     }
     lines::put_last_line(room, at, records, refusals)
 }
 
 // Puts all that is printed of a capture whose header is refused, and answers the place after it in the room.
-pub fn put_refused_header(room: &mut [u8], at: usize, number: u8) -> usize
-    ensures { left_room room result ≡ put (header_refused number) (lent_room room at) }
+pub fn put_refused_header(room: &mut [u8], at: usize, refusal: Refusal) -> usize
+    ensures { left_room room result ≡ put (header_refused refusal) (lent_room room at) }
 {
-    let next = lines::put_line(room, at, 0, Answer::Refused(number));
+    let next = lines::put_line(room, at, 0, Err(refusal));
     lines::put_last_line(room, next, 0, 1)
 }
