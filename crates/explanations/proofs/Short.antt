@@ -10,6 +10,9 @@ use native.Mathlib.Omega.{arith}
 use lib.Dec.{eqb}
 use lib.IntN.{ℤ, nat_abs}
 use lib.ListN.{length, length-append}
+use Rattle.std.specs.Prelude.{Option, None, Some, Result, Ok, Err}
+use Rattle.refused.specs.declared.Refusal.{Refusal}
+use Rattle.refused.specs.Refused.{refusal_number}
 use Rattle.packet.specs.declared.kinds.Kind.{Kind}
 use Rattle.packet.specs.declared.kinds.Kind.TheVariants.{Udp, Opening, SynAck, Closing, Plain}
 use Rattle.sides.specs.declared.Entry.{Entry}
@@ -18,13 +21,11 @@ use Rattle.verdicts.specs.declared.Verdict.{Verdict}
 use Rattle.verdicts.specs.declared.Verdict.TheVariants.{Uncounted, CreditOfOne, CreditOfTwo, FreshContact, Hygiene, Blocked}
 use Rattle.verdicts.specs.Verdicts.{number_of}
 use Rattle.reasons.specs.declared.Drop.{Drop}
-use Rattle.reasons.specs.declared.Asked.{Asked}
-use Rattle.reasons.specs.declared.Asked.TheVariants.{Nothing, Why}
 use Rattle.reasons.specs.declared.Explanation.{Explanation}
 use Rattle.reasons.specs.declared.Explanation.TheVariants as why
 use Rattle.lines.specs.Letters.{text}
 use Rattle.lines.specs.Text.{decimal, signed, dotted}
-use Rattle.lines.proofs.Whole.{signed_short, byte_short, dotted_short, one_digit, long_number}
+use Rattle.lines.proofs.Whole.{signed_short, byte_short, dotted_short, one_digit, refusal_digit, long_number}
 use Rattle.explanations.specs.declared.Report.{Report}
 use Rattle.explanations.specs.Values.{kind_word, kind_words, is_blocking, kinds_that_pass, port_word, port_words, has_ports, entry_text, value_of, letter_text, is_mark, filled}
 use Rattle.explanations.specs.Explanations.{said, of_facts, first_line, who_and_whom, by_plant_mark, situation, ways_through, drop_text, forwarded_text, not_ours_text, refused_words, refused_text, explanation_text, is_told, asked_text}
@@ -41,15 +42,15 @@ pub record DropSized (drop : Drop) : Type 0 where
   pub cell_entry : EntrySized drop.cell_entry
   pub plant_entry : EntrySized drop.plant_entry
 
-abbrev pub ExplanationSized : Explanation → Type 0
-ExplanationSized (why.Refused refusal) = refusal < 2 ^ 8
-ExplanationSized why.NotOurs = Unit {0}
-ExplanationSized (why.Forwarded verdict) = Unit {0}
-ExplanationSized (why.Dropped drop) = DropSized drop
+abbrev pub ExplanationSized : Result Explanation Refusal → Type 0
+ExplanationSized (Err refusal) = Unit {0}
+ExplanationSized (Ok why.NotOurs) = Unit {0}
+ExplanationSized (Ok (why.Forwarded verdict)) = Unit {0}
+ExplanationSized (Ok (why.Dropped drop)) = DropSized drop
 
-abbrev pub AskedSized : Asked → Type 0
-AskedSized Nothing = Unit {0}
-AskedSized (Why explanation) = ExplanationSized explanation
+abbrev pub AskedSized : Option (Result Explanation Refusal) → Type 0
+AskedSized None = Unit {0}
+AskedSized (Some explanation) = ExplanationSized explanation
 
 -- ---- a value has at most 33 bytes
 record AtMost (k : ℕ) (l : List ℕ) : Type 0 where
@@ -285,26 +286,26 @@ refused_short number =
     (record { few = omega arith })))
 
 -- what is told of a record has room in 1,554 bytes
-pub asked_short : (wanted number seconds : ℕ) (asked : Asked) → number < 2 ^ 64 → seconds < 2 ^ 32 → AskedSized asked
+pub asked_short : (wanted : Option ℕ) (number seconds : ℕ) (asked : Option (Result Explanation Refusal)) → number < 2 ^ 64 → seconds < 2 ^ 32 → AskedSized asked
     → length (asked_text wanted number seconds asked) ≤ 1554
 unfolding text
-asked_short wanted number seconds Nothing n s sized = omega arith
-asked_short wanted number seconds (Why explanation) n s sized =
+asked_short wanted number seconds None n s sized = omega arith
+asked_short wanted number seconds (Some explanation) n s sized =
     (or_else (is_told wanted number explanation) (explanation_text number seconds explanation) {y = []}
     (record { few = go explanation sized }) (record { few = omega arith })).few
   where
-    go : (e : Explanation) → ExplanationSized e → length (explanation_text number seconds e) ≤ 1554
-    go (why.Refused refusal) small =
+    go : (e : Result Explanation Refusal) → ExplanationSized e → length (explanation_text number seconds e) ≤ 1554
+    go (Err refusal) small =
         omega (
           arith,
           long_number number n,
-          long_number refusal (omega (arith, small)),
-          (refused_short refusal).few,
-          length-append (decimal number) (refused_text refusal),
-          length-append (text " R ") (decimal refusal ++ refused_words refusal),
-          length-append (decimal refusal) (refused_words refusal),
+          refusal_digit refusal,
+          (refused_short (refusal_number refusal)).few,
+          length-append (decimal number) (refused_text (refusal_number refusal)),
+          length-append (text " R ") (decimal (refusal_number refusal) ++ refused_words (refusal_number refusal)),
+          length-append (decimal (refusal_number refusal)) (refused_words (refusal_number refusal)),
         )
-    go why.NotOurs small = omega (arith, long_number number n, length-append (decimal number) not_ours_text)
-    go (why.Forwarded verdict) small =
+    go (Ok why.NotOurs) small = omega (arith, long_number number n, length-append (decimal number) not_ours_text)
+    go (Ok (why.Forwarded verdict)) small =
         omega (arith, long_number number n, forwarded_short verdict, length-append (decimal number) (forwarded_text verdict))
-    go (why.Dropped drop) small = drop_short (record { number = number; seconds = seconds; drop = drop }) n s small
+    go (Ok (why.Dropped drop)) small = drop_short (record { number = number; seconds = seconds; drop = drop }) n s small

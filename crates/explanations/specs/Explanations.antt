@@ -1,11 +1,11 @@
 -- Document 02, K4: what the program puts out for a record of which it is asked why. docs/WHY.md says it to operators.
 -- Assumes nothing.
-use Rattle.std.specs.Prelude.{Bool, true, false, cond, List, [], ◌++◌, ℕ, eqb}
+use Rattle.std.specs.Prelude.{Bool, true, false, cond, List, [], ◌++◌, ℕ, eqb, Option, None, Some, Result, Ok, Err}
 use Prim.Native.String.{String}
+use Rattle.refused.specs.declared.Refusal.{Refusal}
+use Rattle.refused.specs.Refused.{refusal_number}
 use Rattle.verdicts.specs.declared.Verdict.{Verdict}
 use Rattle.verdicts.specs.declared.Verdict.TheVariants.{Uncounted, CreditOfOne, CreditOfTwo, FreshContact, Hygiene, Blocked}
-use Rattle.reasons.specs.declared.Asked.{Asked}
-use Rattle.reasons.specs.declared.Asked.TheVariants.{Nothing, Why}
 use Rattle.reasons.specs.declared.Explanation.{Explanation}
 use Rattle.reasons.specs.declared.Explanation.TheVariants as why
 use Rattle.lines.specs.Letters.{text}
@@ -89,22 +89,23 @@ abbrev pub refused_text : ℕ → List ℕ
 refused_text number = text " R " ++ (decimal number ++ refused_words number)
 
 -- ---- of a record, by its number and its second
-abbrev pub explanation_text : ℕ → ℕ → Explanation → List ℕ
-explanation_text number seconds (why.Refused refusal) = decimal number ++ refused_text refusal
-explanation_text number seconds why.NotOurs = decimal number ++ not_ours_text
-explanation_text number seconds (why.Forwarded verdict) = decimal number ++ forwarded_text verdict
-explanation_text number seconds (why.Dropped drop) = drop_text (record { number = number; seconds = seconds; drop = drop })
+abbrev pub explanation_text : ℕ → ℕ → Result Explanation Refusal → List ℕ
+explanation_text number seconds (Err refusal) = decimal number ++ refused_text (refusal_number refusal)
+explanation_text number seconds (Ok why.NotOurs) = decimal number ++ not_ours_text
+explanation_text number seconds (Ok (why.Forwarded verdict)) = decimal number ++ forwarded_text verdict
+explanation_text number seconds (Ok (why.Dropped drop)) = drop_text (record { number = number; seconds = seconds; drop = drop })
 
-abbrev pub is_drop : Explanation → Bool
-is_drop (why.Refused refusal) = false
-is_drop why.NotOurs = false
-is_drop (why.Forwarded verdict) = false
-is_drop (why.Dropped drop) = true
+abbrev pub is_drop : Result Explanation Refusal → Bool
+is_drop (Err refusal) = false
+is_drop (Ok why.NotOurs) = false
+is_drop (Ok (why.Forwarded verdict)) = false
+is_drop (Ok (why.Dropped drop)) = true
 
 -- which records are told of: each that was dropped, or the one that is asked for by its number, from 1
-abbrev pub is_told : ℕ → ℕ → Explanation → Bool
-is_told wanted number explanation = cond (eqb wanted 0) (is_drop explanation) (eqb number wanted)
+abbrev pub is_told : Option ℕ → ℕ → Result Explanation Refusal → Bool
+is_told None number explanation = is_drop explanation
+is_told (Some wanted) number explanation = eqb number wanted
 
-abbrev pub asked_text : ℕ → ℕ → ℕ → Asked → List ℕ
-asked_text wanted number seconds Nothing = []
-asked_text wanted number seconds (Why explanation) = cond (is_told wanted number explanation) (explanation_text number seconds explanation) []
+abbrev pub asked_text : Option ℕ → ℕ → ℕ → Option (Result Explanation Refusal) → List ℕ
+asked_text wanted number seconds None = []
+asked_text wanted number seconds (Some explanation) = cond (is_told wanted number explanation) (explanation_text number seconds explanation) []

@@ -3,13 +3,15 @@
 #![tactic(auto)]
 
 ghost use Rattle.std.specs.Prelude.{◌≡◌, cond, false, []};
+ghost use Rattle.refused.specs.Refused.{refusal_number};
 ghost use Rattle.lines.specs.Room.{lent_room, left_room, put};
 ghost use Rattle.explanations.specs.Values.{kind_word, kind_words, is_blocking, kinds_that_pass, port_word, port_words, has_ports, entry_text, value_of, letter_text, filled};
 ghost use Rattle.explanations.specs.Explanations.{of_facts, first_line, who_and_whom, by_plant_mark, situation, ways_through, drop_text, forwarded_text, refused_words, refused_text, explanation_text, is_drop, is_told, asked_text};
 
 use packet::Header;
 use packet::kinds::Kind;
-use reasons::{Asked, Drop, Explanation};
+use reasons::{Drop, Explanation};
+use refused::Refusal;
 use sides::Entry;
 use verdicts::Verdict;
 
@@ -346,21 +348,21 @@ fn put_forwarded(room: &mut [u8], at: usize, verdict: Verdict) -> usize
 }
 
 // What a refusal means.
-fn put_refused_words(room: &mut [u8], at: usize, number: u8) -> usize
-    ensures { left_room room result ≡ put (refused_words number) (lent_room room at) }
+fn put_refused_words(room: &mut [u8], at: usize, refusal: Refusal) -> usize
+    ensures { left_room room result ≡ put (refused_words (refusal_number refusal)) (lent_room room at) }
 {
-    match number {
-        4 => lines::put_text(
+    match refusal {
+        Refusal::Time => lines::put_text(
             room,
             at,
             b"\n  It was refused, and not judged: its time is before the clock (refusal 4).\n",
         ),
-        5 => lines::put_text(
+        Refusal::Short => lines::put_text(
             room,
             at,
             b"\n  It was refused, and not judged: its header bytes end too soon (refusal 5).\n",
         ),
-        6 => lines::put_text(
+        Refusal::Header => lines::put_text(
             room,
             at,
             b"\n  It was refused, and not judged: it has no IPv4 header that can be read (refusal 6).\n",
@@ -370,12 +372,12 @@ fn put_refused_words(room: &mut [u8], at: usize, number: u8) -> usize
 }
 
 // A refusal.
-fn put_refused(room: &mut [u8], at: usize, number: u8) -> usize
-    ensures { left_room room result ≡ put (refused_text number) (lent_room room at) }
+fn put_refused(room: &mut [u8], at: usize, refusal: Refusal) -> usize
+    ensures { left_room room result ≡ put (refused_text (refusal_number refusal)) (lent_room room at) }
 {
     let next = lines::put_text(room, at, b" R ");
-    let next = lines::put_decimal(room, next, number as u64);
-    put_refused_words(room, next, number)
+    let next = lines::put_decimal(room, next, u8::from(refusal) as u64);
+    put_refused_words(room, next, refusal)
 }
 
 // What is told of a record, whatever its verdict.
@@ -384,16 +386,16 @@ fn put_explanation(
     at: usize,
     number: u64,
     seconds: u32,
-    explanation: Explanation,
+    explanation: Result<Explanation, Refusal>,
 ) -> usize
     ensures { left_room room result ≡ put (explanation_text number seconds explanation) (lent_room room at) }
 {
     match explanation {
-        Explanation::Refused(refusal) => {
+        Err(refusal) => {
             let next = lines::put_decimal(room, at, number);
             put_refused(room, next, refusal)
         }
-        Explanation::NotOurs => {
+        Ok(Explanation::NotOurs) => {
             let next = lines::put_decimal(room, at, number);
             lines::put_text(
                 room,
@@ -401,11 +403,11 @@ fn put_explanation(
                 b" 0\n  It was forwarded: it is no IPv4 packet between the cell and the plant (verdict 0).\n",
             )
         }
-        Explanation::Forwarded(verdict) => {
+        Ok(Explanation::Forwarded(verdict)) => {
             let next = lines::put_decimal(room, at, number);
             put_forwarded(room, next, verdict)
         }
-        Explanation::Dropped(drop) => put_drop(
+        Ok(Explanation::Dropped(drop)) => put_drop(
             room,
             at,
             Report {
@@ -418,42 +420,37 @@ fn put_explanation(
 }
 
 // Whether it is told why a packet was dropped.
-fn is_drop(explanation: Explanation) -> bool
+fn is_drop(explanation: Result<Explanation, Refusal>) -> bool
     ensures { result ≡ is_drop explanation }
 {
-    match explanation {
-        Explanation::Refused(refusal) => false,
-        Explanation::NotOurs => false,
-        Explanation::Forwarded(verdict) => false,
-        Explanation::Dropped(drop) => true,
-    }
+    matches!(explanation, Ok(Explanation::Dropped(_)))
 }
 
-// Whether a record is told of: each that was dropped where 0 is wanted, and else the one with the number that is wanted.
-fn is_told(wanted: u64, number: u64, explanation: Explanation) -> bool
+// Whether a record is told of: the one with the number that is wanted, and each that was dropped where none is.
+fn is_told(wanted: Option<u64>, number: u64, explanation: Result<Explanation, Refusal>) -> bool
     ensures { result ≡ is_told wanted number explanation }
 {
-    if wanted == 0 {
-        return is_drop(explanation);
+    match wanted {
+        None => is_drop(explanation),
+        Some(wanted) => number == wanted,
     }
-    number == wanted
 }
 
-// Puts what is told of a record, by its number and second, where it is asked why: of each that was dropped where 0 is wanted, and else of the
-// one with the number that is wanted. Answers the place after it in the room.
+// Puts what is told of a record, by its number and second, where it is asked why: of the one with the number that is wanted, and of each that
+// was dropped where none is. Answers the place after it in the room.
 pub fn put_asked(
     room: &mut [u8],
     at: usize,
-    wanted: u64,
+    wanted: Option<u64>,
     number: u64,
     seconds: u32,
-    asked: Asked,
+    asked: Option<Result<Explanation, Refusal>>,
 ) -> usize
     ensures { left_room room result ≡ put (asked_text wanted number seconds asked) (lent_room room at) }
 {
     match asked {
-        Asked::Nothing => at,
-        Asked::Why(explanation) => {
+        None => at,
+        Some(explanation) => {
             if is_told(wanted, number, explanation) {
                 return put_explanation(room, at, number, seconds, explanation);
             }

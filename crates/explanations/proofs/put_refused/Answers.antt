@@ -6,4 +6,4 @@ use Rattle.explanations.proofs.put_refused.Goals as goal
 
 pub returns : goal.returns
 unfolding text
-returns c = text_then _ _ _ c.put_text-next.ensures (text_then _ _ _ c.put_decimal-next.ensures c.put_refused_words.ensures)
+returns c = text_then _ _ _ c.put_text-next.ensures (text_then _ _ _ (rw c.from.ensures at c.put_decimal-next.ensures) c.put_refused_words.ensures)
