@@ -8,9 +8,11 @@ use native.Mathlib.Omega.{arith}
 use lib.ListN.{length, take, drop}
 use Rattle.words.specs.Words.{stored}
 use Rattle.words.proofs.Words.{all_stored, nothing_stored}
+use Rattle.std.specs.Prelude.{Option, Result}
+use Rattle.refused.specs.declared.Refusal.{Refusal}
 use Rattle.rulings.specs.declared.answers.Answer.{Answer}
 use Rattle.rulings.specs.Answers.{forwarded_told}
-use Rattle.reasons.specs.declared.Asked.{Asked}
+use Rattle.reasons.specs.declared.Explanation.{Explanation}
 use Rattle.explanations.specs.Explanations.{asked_text}
 use Rattle.explanations.proofs.Short.{AskedSized, asked_short}
 use Rattle.lines.specs.Lines.{line}
@@ -32,7 +34,7 @@ module _ (at : ℕ) (room : List ℕ) where
       whole text at room h
       ∙ ap (room_of (at + length text)) (append_assoc (take at room) text (drop (at + length text) room) ∙ sym (all_stored text at room h))
 
-  forwarded_whole : (r : Content) (answer : Answer) → length r.bytes ≤ 2048 → (t : Bool) → forwarded_told answer ≡ t
+  forwarded_whole : (r : Content) (answer : Result Answer Refusal) → length r.bytes ≤ 2048 → (t : Bool) → forwarded_told answer ≡ t
       → at + length (cond t (record_bytes false r) []) ≤ length room
       → forwarded_put r answer (room_of at room) ≡ Stored (cond t (record_bytes false r) []) at room
   forwarded_whole r answer few true e h =
@@ -43,7 +45,7 @@ module _ (at : ℕ) (room : List ℕ) where
       is_held_back r answer (room_of at room) e ∙ (λ i. room_of (sym end i) (sym (nothing_stored at room (omega (arith, h))) i))
 
   -- a whole record has at most 2,048 captured bytes
-  pub told_whole : (output : Output) (number : ℕ) (r : Content) (answer : Answer) (asked : Asked) → length r.bytes ≤ 2048
+  pub told_whole : (output : Output) (number : ℕ) (r : Content) (answer : Result Answer Refusal) (asked : Option (Result Explanation Refusal)) → length r.bytes ≤ 2048
       → at + length (told_of output number r answer asked) ≤ length room
       → told_put output number r answer asked (room_of at room) ≡ Stored (told_of output number r answer asked) at room
   told_whole Lines number r answer asked few h = line_whole (line number answer) h
@@ -63,13 +65,13 @@ module _ (at : ℕ) (room : List ℕ) where
 
 -- ---- how long it is
 -- what the types of a record's, an answer's and an explanation's parts say of them, where they are printed
-abbrev pub Sized : Output → Content → Answer → Asked → Type 0
+abbrev pub Sized : Output → Content → Result Answer Refusal → Option (Result Explanation Refusal) → Type 0
 Sized Lines r answer asked = InRange answer
 Sized Forwarded r answer asked = Unit {0}
 Sized (Reasons wanted) r answer asked = (r.seconds < 2 ^ 32) × AskedSized asked
 
 -- any line, any record and any explanation has place in 2,064 bytes
-pub told_short : (output : Output) (number : ℕ) (r : Content) (answer : Answer) (asked : Asked) → number < 2 ^ 64 → Sized output r answer asked
+pub told_short : (output : Output) (number : ℕ) (r : Content) (answer : Result Answer Refusal) (asked : Option (Result Explanation Refusal)) → number < 2 ^ 64 → Sized output r answer asked
     → length r.bytes ≤ 2048 → length (told_of output number r answer asked) ≤ 2064
 told_short Lines number r answer asked h range few = omega (arith, line_short number answer h range)
 told_short Forwarded number r answer asked h range few = go (forwarded_told answer)

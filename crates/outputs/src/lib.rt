@@ -6,60 +6,49 @@ ghost use Rattle.std.specs.Prelude.{◌≡◌};
 ghost use Rattle.rulings.specs.Answers.{forwarded_told};
 ghost use Rattle.lines.specs.Room.{lent_room, left_room};
 ghost use Rattle.capture.specs.Format.{content_of};
-ghost use Rattle.outputs.specs.Outputs.{place_after, forwarded_put, asks_why, told_put, opening_put};
+ghost use Rattle.outputs.specs.Outputs.{forwarded_put, asks_why, told_put, opening_put};
 
-use capture::{Record, Written};
-use reasons::Asked;
+use capture::Record;
+use reasons::Explanation;
+use refused::Refusal;
 use rulings::answers::Answer;
 
-// Which program it is: the printing one, the one that writes what was forwarded, or the one that says why, of every record that was dropped
-// where its number is 0, and else of the one record with that number.
+// Which program it is: the printing one, the one that writes what was forwarded, or the one that says why, of the one record with its number,
+// and of every record that was dropped where it has none.
 #[derive(Clone, Copy)]
 pub enum Output {
     Lines,
     Forwarded,
-    Reasons(u64),
+    Reasons(Option<u64>),
 }
 
 // Whether a program asks of each record why it is dropped.
 pub fn asks_why(output: Output) -> bool
     ensures { result ≡ asks_why output }
 {
-    match output {
-        Output::Lines => false,
-        Output::Forwarded => false,
-        Output::Reasons(wanted) => true,
-    }
+    matches!(output, Output::Reasons(_))
 }
 
 // Whether an answer lets the packet through. What is not ours goes through; what is refused does not.
-fn is_forwarded(answer: Answer) -> bool
+fn is_forwarded(answer: Result<Answer, Refusal>) -> bool
     ensures { result ≡ forwarded_told answer }
 {
     match answer {
-        Answer::Refused(number) => false,
-        Answer::NotOurs => true,
-        Answer::Judged {
-            verdict,
-            count,
-            replaced,
-        } => !verdicts::is_dropped(verdict),
-    }
-}
-
-// The place after what was written: the same as before where it was refused.
-fn place_after(written: Written, at: usize) -> usize
-    ensures { result ≡ place_after written at }
-{
-    match written {
-        Written::Refused(number) => at,
-        Written::Next(next) => next,
+        Err(_) => false,
+        Ok(Answer::NotOurs) => true,
+        Ok(Answer::Judged { verdict, .. }) => !verdicts::is_dropped(verdict),
     }
 }
 
 // Puts a record that went through.
 #[tactic(auto, unfolding(crate::specs::Outputs::forwarded_put))]
-fn put_forwarded(room: &mut [u8], at: usize, read: Record, frame: &[u8], answer: Answer) -> usize
+fn put_forwarded(
+    room: &mut [u8],
+    at: usize,
+    read: Record,
+    frame: &[u8],
+    answer: Result<Answer, Refusal>,
+) -> usize
     ensures { left_room room result
         ≡ forwarded_put (content_of read.seconds read.microseconds read.original frame.now) answer (lent_room room at) }
 {
@@ -72,7 +61,7 @@ fn put_forwarded(room: &mut [u8], at: usize, read: Record, frame: &[u8], answer:
             read.original,
             frame,
         );
-        return place_after(written, at);
+        return written.unwrap_or(at);
     }
     at
 }
@@ -86,8 +75,8 @@ pub fn put_told(
     number: u64,
     read: Record,
     frame: &[u8],
-    answer: Answer,
-    asked: Asked,
+    answer: Result<Answer, Refusal>,
+    asked: Option<Result<Explanation, Refusal>>,
 ) -> usize
     ensures { left_room room result
         ≡ told_put output number (content_of read.seconds read.microseconds read.original frame.now) answer asked
@@ -109,7 +98,7 @@ pub fn put_opening(output: Output, room: &mut [u8], at: usize) -> usize
 {
     match output {
         Output::Lines => at,
-        Output::Forwarded => place_after(capture::put_header(room, at), at),
-        Output::Reasons(wanted) => at,
+        Output::Forwarded => capture::put_header(room, at).unwrap_or(at),
+        Output::Reasons(_) => at,
     }
 }
