@@ -1,7 +1,7 @@
 // The counts of the address table: signed 16-bit numbers, one to an entry. Nothing here overflows, whatever the count.
 #![tactic(auto)]
 
-ghost use Rattle.std.specs.Prelude.{◌≡◌, map, min};
+ghost use Rattle.std.specs.Prelude.{◌≡◌, map};
 ghost use Rattle.counts.specs.Counts.{is_empty, is_blocked, lowered_by, raised_by, decayed_by};
 
 // Whether an entry with this count is empty: only -32,768 says so.
@@ -15,39 +15,24 @@ pub fn is_empty(count: i16) -> bool
 pub fn is_blocked(count: i16, threshold: u16) -> bool
     ensures { result ≡ is_blocked threshold count }
 {
-    (threshold as i32) <= (count as i32)
+    i32::from(threshold) <= i32::from(count)
 }
 
 // A count less some points of credit, and never below the floor.
 pub fn lowered(count: i16, points: u8, floor: i16) -> i16
     ensures { result ≡ lowered_by points floor count }
 {
-    let left = (count as i32) - (points as i32);
-    if left < (floor as i32) {
-        return floor;
-    }
-    left as i16
+    count.saturating_sub(i16::from(points)).max(floor)
 }
 
 // A count and the points of a fresh contact, up to a ceiling. A count above the ceiling stays.
 pub fn raised(count: i16, points: u8, ceiling: i16) -> i16
     ensures { result ≡ raised_by points ceiling count }
 {
-    let sum = (count as i32) + (points as i32);
-    if sum <= (ceiling as i32) {
-        return sum as i16;
-    }
-    if count <= ceiling {
-        return ceiling;
-    }
     count
-}
-
-// So many points as a count can tell apart: none is higher than 32,767.
-fn steps_of(points: u64) -> u16
-    ensures { result ≡ min points 32767 }
-{
-    if points < 32767 { points as u16 } else { 32767 }
+        .saturating_add(i16::from(points))
+        .min(ceiling)
+        .max(count)
 }
 
 // A positive count less so many points, stopping at 0; any other stays. All in 16 bits, so that a sweep takes many counts at once.
@@ -57,18 +42,15 @@ fn fallen(count: i16, steps: u16) -> i16
     if count <= 0 {
         return count;
     }
-    let high = count as u16;
-    if high <= steps {
-        return 0;
-    }
-    (high - steps) as i16
+    (count as u16).saturating_sub(steps) as i16
 }
 
-// One count after a decay by so many points: a positive one falls, to 0 at the lowest, and any other stays.
+// One count after a decay by so many points: a positive one falls, to 0 at the lowest, and any other stays. No count is over 32,767, so
+// that as many steps do what more of them do.
 pub fn decayed(count: i16, points: u64) -> i16
     ensures { result ≡ decayed_by points count }
 {
-    fallen(count, steps_of(points))
+    fallen(count, points.min(32767) as u16)
 }
 
 // Decays every count by so many points. By none, none is touched.
@@ -78,9 +60,7 @@ pub fn decay_all(counts: &mut [i16], points: u64)
     if points == 0 {
         return;
     }
-    let mut i = 0;
-    while i < counts.len() {
-        counts[i] = decayed(counts[i], points);
-        i += 1;
+    for count in counts.iter_mut() {
+        *count = decayed(*count, points);
     }
 }

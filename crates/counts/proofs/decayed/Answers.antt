@@ -8,4 +8,4 @@ use Rattle.counts.proofs.decayed.Goals as goal
 
 pub returns : goal.returns
 returns c =
-    to_z-of_z w16 _ (record { sfits = c.fallen.type_inv }) ∙ c.fallen.ensures ∙ in_steps c.args.points c.ranges.count c.steps_of.ensures
+    to_z-of_z w16 _ (record { sfits = c.fallen.type_inv }) ∙ c.fallen.ensures ∙ in_steps c.args.points c.ranges.count c.min.ensures
