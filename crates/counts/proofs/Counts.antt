@@ -6,22 +6,29 @@ use Prim.Native.Nat.{ℕ, zero, suc, ◌+◌, ◌-◌, ◌<◌, min}
 use native.Mathlib.Omega.{arith}
 use lib.Dec.{eqb}
 use borrow.Author.Tests.{ne_eqb}
-use lib.IntN.{ℤ, pos, negsuc, ◌-ℤ◌}
-use lib.Signed.{lt_z}
+use lib.IntN.{ℤ, pos, negsuc, ◌+ℤ◌, ◌-ℤ◌}
+use lib.Signed.{le_z, lt_z}
 use mir.Syntax.{w16}
 use mir.Val.{SFits, to_z, of_z}
 use mir.ValLaws.{to_z-of_z}
-use Rattle.laws.proofs.Tests.{eqb_same}
-use Rattle.laws.proofs.Signed.{up, dn, signed, known, lt_z_true, lt_z_false, difference_is, one_part}
+use Rattle.laws.proofs.Tests.{eqb_same, cond_at}
+use Rattle.laws.proofs.Signed.{up, dn, signed, known, lt_z_true, lt_z_false, le_z_yes, sum_is, difference_is, one_part}
 use Rattle.laws.specs.Times.{times}
 use Rattle.laws.proofs.Times.{times_none, times_more, times_add}
-use Rattle.counts.specs.Counts.{is_empty, point_less, decayed_by}
+use Rattle.counts.specs.Counts.{is_empty, larger, smaller, raised_by, point_less, decayed_by}
 
 -- the bits of -32,768 are those of no other count
 pub empty_bits : (z : ℤ) → SFits w16 z → eqb (of_z w16 z) 32768 ≡ is_empty z
 unfolding is_empty
 empty_bits (pos n) f = ne_eqb n 32768 (λ (e : n ≡ 32768). omega (arith, f))
 empty_bits (negsuc n) f = eqb_same (65536 - suc n) 32768 (suc n) 32768 (λ e. omega (arith, f)) (λ e. omega (arith, f))
+
+-- where the ceiling has room, the count is raised by all its points
+pub raised_within : (points : ℕ) (ceiling count : ℤ) → le_z (count +ℤ pos points) ceiling ≡ true → raised_by points ceiling count ≡ count +ℤ pos points
+unfolding larger smaller
+raised_within points ceiling count e =
+    ap (larger count) (cond_at (count +ℤ pos points) ceiling e)
+    ∙ cond_at (count +ℤ pos points) count (le_z_yes count (count +ℤ pos points) (omega (arith, sum_is count (pos points))))
 
 -- ---- points of decay
 pub decayed_none : (z : ℤ) → decayed_by 0 z ≡ z

@@ -33,20 +33,6 @@ pub fn renewed(marks: Marks) -> u8
     }
 }
 
-// So many minutes as one record can tell apart: none gets older than 63, so that 64 clear them all.
-fn steps_of(minutes: u32) -> u8
-    ensures { result ≡ min minutes 64 }
-{
-    if minutes < 64 { minutes as u8 } else { 64 }
-}
-
-// The highest age that is kept: Dconn, which is at most 62, and never more than six bits hold.
-fn oldest_kept(dconn: u8) -> u8
-    ensures { result ≡ min dconn 63 }
-{
-    if dconn < 63 { dconn } else { 63 }
-}
-
 // One record after a minute boundary or several. All in bytes, so that a sweep takes many records at once.
 fn older(byte: u8, steps: u8, oldest: u8) -> u8
     requires { (0 < steps) × (steps ≤ 64) × (oldest ≤ 63) }
@@ -62,13 +48,14 @@ fn older(byte: u8, steps: u8, oldest: u8) -> u8
 }
 
 // One record after so many minute boundaries: older by as many, or 0 where it is then over Dconn or was without a mark. By none, it stays.
+// None gets older than 63, so that 64 minutes clear them all, and Dconn, which is at most 62, is never more than six bits hold.
 pub fn aged(byte: u8, minutes: u32, dconn: u8) -> u8
     ensures { result ≡ aged_by dconn minutes byte }
 {
     if minutes == 0 {
         return byte;
     }
-    older(byte, steps_of(minutes), oldest_kept(dconn))
+    older(byte, minutes.min(64) as u8, dconn.min(63))
 }
 
 // The most records that a part has: a line of memory, which is 64 bytes.
@@ -79,11 +66,8 @@ fn all_between(records: &[u8], least: u8, most: u8) -> bool
     ensures { result ≡ every (length records.now) (λ slot. leb least (get_or records.now slot 0) && leb (get_or records.now slot 0) most) }
 {
     let mut all = true;
-    let mut i = 0;
-    while i < records.len() {
-        let byte = records[i];
+    for &byte in records {
         all = ((least <= byte) & (byte <= most)) & all;
-        i += 1;
     }
     all
 }
@@ -92,10 +76,8 @@ fn all_between(records: &[u8], least: u8, most: u8) -> bool
 fn age_each(records: &mut [u8], minutes: u32, dconn: u8)
     ensures { records.new ≡ map (aged_by dconn minutes) records.old }
 {
-    let mut i = 0;
-    while i < records.len() {
-        records[i] = aged(records[i], minutes, dconn);
-        i += 1;
+    for record in records.iter_mut() {
+        *record = aged(*record, minutes, dconn);
     }
 }
 
@@ -104,10 +86,8 @@ fn age_into(records: &[u8], older: &mut [u8], minutes: u32, dconn: u8)
     requires { length records.now ≤ length older.old }
     ensures { take (length records.now) older.new ≡ map (aged_by dconn minutes) records.now }
 {
-    let mut i = 0;
-    while i < records.len() {
+    for i in 0..records.len() {
         older[i] = aged(records[i], minutes, dconn);
-        i += 1;
     }
 }
 
@@ -118,11 +98,9 @@ fn list_places(records: &[u8], older: &[u8], places: &mut [u8]) -> usize
         × (take result places.new ≡ those_below (length records.now) (λ slot. not (eqb (get_or records.now slot 0) (get_or older.now slot 0)))) }
 {
     let mut listed = 0;
-    let mut place = 0;
-    while place < records.len() {
+    for place in 0..records.len() {
         places[listed] = place as u8;
-        listed += (records[place] != older[place]) as usize;
-        place += 1;
+        listed += usize::from(records[place] != older[place]);
     }
     listed
 }
@@ -133,11 +111,9 @@ fn store_at(records: &mut [u8], older: &[u8], places: &[u8])
         × (places.now ≡ those_below (length records.old) (λ slot. not (eqb (get_or records.old slot 0) (get_or older.now slot 0)))) }
     ensures { records.new ≡ take (length records.old) older.now }
 {
-    let mut i = 0;
-    while i < places.len() {
-        let at = places[i] as usize;
+    for &place in places {
+        let at = usize::from(place);
         records[at] = older[at];
-        i += 1;
     }
 }
 
@@ -177,6 +153,7 @@ fn part_end(at: usize, length: usize) -> usize
 fn age_parts(records: &mut [u8], minutes: u32, dconn: u8)
     ensures { records.new ≡ map (aged_by dconn minutes) records.old }
 {
+    // Kept: 2^20 cold records take 44 us, but 60 with `min` for `part_end` and 90 with `step_by`; no proof follows `chunks_mut`.
     let mut at = 0;
     while at < records.len() {
         let end = part_end(at, records.len());
@@ -193,8 +170,9 @@ pub fn age_all(records: &mut [u8], minutes: u32, dconn: u8)
     if minutes == 0 {
         return;
     }
-    let all = records.len();
-    let half = all / 2;
-    age_parts(&mut records[0..half], minutes, dconn);
-    age_parts(&mut records[half..all], minutes, dconn);
+    // Kept: with `#[inline(never)]` in place of two halves, 2^20 marked records take 159 us and not 149.
+    let half = records.len() / 2;
+    let (first, second) = records.split_at_mut(half);
+    age_parts(first, minutes, dconn);
+    age_parts(second, minutes, dconn);
 }

@@ -12,4 +12,4 @@ returns-then-minutes-eq0 c =
 
 pub returns : goal.returns
 returns c =
-    c.older.ensures ∙ in_bytes c.args.dconn c.args.minutes c.steps_of.ensures c.oldest_kept.ensures c.args.byte
+    c.older.ensures ∙ in_bytes c.args.dconn c.args.minutes c.min.ensures c.min-2.ensures c.args.byte
