@@ -56,9 +56,9 @@ entered place ruling tags counts =
     (written_of None tags counts)
 
 -- "the replaced address, if any, recovered by the inverse from line and tag": by the keys, the number of lines and the line
-abbrev pub replacement_of : List ℕ → ℕ → ℕ → Option ℕ → Replacement
-replacement_of keys lines line None = replacement.None
-replacement_of keys lines line (Some tag) = replacement.Address (address_of keys (record { line = line; tag = tag }) lines)
+abbrev pub replacement_of : List ℕ → ℕ → ℕ → Option ℕ → Option ℕ
+replacement_of keys lines line None = None
+replacement_of keys lines line (Some tag) = Some (address_of keys (record { line = line; tag = tag }) lines)
 
 -- what the ruling makes of the tables. "The answer holds the verdict, the address's count after it, and the replaced address, if any"
 abbrev pub settled : List ℕ → Spot → Ruling → Tables → Outcome
@@ -80,17 +80,7 @@ ours rules placing h from_plant before = settled placing.keys spot (ruling_at ru
 abbrev pub direction_in : List ℕ → List ℕ → Header → Direction
 direction_in cell plant h = direction_between cell plant h.source h.destination
 
--- "A packet is ours when one end is cell and the other plant": from either of them
-abbrev pub is_ours : Direction → Bool
-is_ours FromCell = true
-is_ours FromPlant = true
-is_ours NotOurs = false
-
-abbrev pub is_from_plant : Direction → Bool
-is_from_plant FromCell = false
-is_from_plant FromPlant = true
-is_from_plant NotOurs = false
-
+-- "A packet is ours when one end is cell and the other plant": from either of them.
 -- "0 not ours": it touches no table
 unfoldable pub by_direction : Rules → Placing → Header → Direction → Tables → Outcome
 by_direction rules placing h FromCell before = ours rules placing h false before

@@ -1,7 +1,9 @@
 -- Document 02, K4: why a packet was dropped. The same refusals, and the same verdict by what the packet meets, as for the packet itself; no
 -- table is written.
 -- Assumes nothing.
-use Rattle.std.specs.Prelude.{Bool, true, false, cond, List, ℕ, zero, suc, length}
+use Rattle.std.specs.Prelude.{Bool, true, false, cond, List, ℕ, length, Result}
+use Rattle.refused.specs.declared.Refusal.{Refusal}
+use Rattle.refused.specs.Refused.{answer_unless}
 use Rattle.settings.specs.declared.Limits.{Limits}
 use Rattle.packet.specs.declared.Header.{Header}
 use Rattle.packet.specs.Header.{header_of}
@@ -63,14 +65,9 @@ why_by_direction rules placing cell plant h FromCell tables = why_ours rules pla
 why_by_direction rules placing cell plant h FromPlant tables = why_ours rules placing cell plant h true tables
 why_by_direction rules placing cell plant h NotOurs tables = explanation.NotOurs
 
--- "It is refused exactly as the packet would be."
-abbrev pub unless_refused_by : ℕ → Explanation → Explanation
-unless_refused_by zero why = why
-unless_refused_by (suc n) why = explanation.Refused (suc n)
-
--- "The tool judges by the tables as they would stand at the packet's second and leaves them untouched."
-unfoldable pub why_of : Rules → Limits → List ℕ → List ℕ → ℕ → List ℕ → State → Explanation
+-- "It is refused exactly as the packet would be." "The tool judges by the tables as they would stand at the packet's second and leaves them untouched."
+unfoldable pub why_of : Rules → Limits → List ℕ → List ℕ → ℕ → List ℕ → State → Result Explanation Refusal
 why_of rules limits cell plant time bytes before =
-    unless_refused_by (packet_refusal limits cell plant time bytes before)
+    answer_unless (packet_refusal limits cell plant time bytes before)
     (why_by_direction rules before.placing cell plant (header_of bytes) (direction_in cell plant (header_of bytes))
     (onward rules.point limits time before).tables)
