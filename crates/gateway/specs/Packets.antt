@@ -11,8 +11,6 @@ use Rattle.places.specs.Places.{place_of, address_of}
 use Rattle.entries.specs.Entries.{count_of, Written, written_of, written}
 use Rattle.tables.specs.Tables.{Tables, tables_of}
 use Rattle.rulings.specs.declared.Ruling.{Ruling}
-use Rattle.rulings.specs.declared.answers.Replacement.{Replacement}
-use Rattle.rulings.specs.declared.answers.Replacement.TheVariants as replacement
 use Rattle.rulings.specs.declared.answers.Answer.{Answer}
 use Rattle.rulings.specs.declared.answers.Answer.TheVariants as answer
 use Rattle.rulings.specs.Rules.{SlotRule, Rules, cell_of}

@@ -135,7 +135,8 @@ impl Gateway<'_> {
         )?;
         cold::fill(self.records, self.tags, self.counts);
         *self.clock = time;
-        self.placing = Placing { keys: set.keys };
+        let keys = set.keys;
+        self.placing = Placing { keys };
         Ok(())
     }
 
@@ -205,6 +206,7 @@ impl Gateway<'_> {
     }
 
     // Judges a packet of ours.
+    #[tactic(auto, unfolding(crate::specs::Packets::ours))]
     fn judge_ours(&mut self, limits: Limits, header: Header, from_plant: bool) -> Answer
         requires { bad_sizes (length self.old.records.now) (length self.old.tags.now) (length self.old.counts.now) ≡ false }
         ensures same_memory { SameMemory self.old self.new }
@@ -224,6 +226,7 @@ impl Gateway<'_> {
 
     // Judges a packet by its direction. One that is not ours touches no table. Packets of both directions go by one call, so that the
     // compiler makes one piece of it all and the keys are not copied for it.
+    #[tactic(auto, unfolding(crate::specs::Packets::by_direction))]
     fn judge_by_direction(&mut self, limits: Limits, header: Header, direction: Direction) -> Answer
         requires { bad_sizes (length self.old.records.now) (length self.old.tags.now) (length self.old.counts.now) ≡ false }
         ensures same_memory { SameMemory self.old self.new }
@@ -252,10 +255,11 @@ impl Gateway<'_> {
 
     // Judges a packet that comes at a time, and brings tables and clock up to it. Answers the verdict with the count and the replaced
     // address. It is refused by 1 to 6, and then nothing is changed.
+    #[tactic(auto, unfolding(crate::specs::Calls::judged, packet::specs::Header::read_of))]
     pub fn judge(&mut self, site: Site<'_>, time: u32, packet: &[u8]) -> Result<Answer, Refusal>
         ensures same_memory { SameMemory self.old self.new }
         ensures state { after_call result (state_in self.new)
-            ≡ judged (rules_of site.limits) site.limits site.cell.now site.plant.now time packet.now (state_in self.old) }
+            ≡ judged (rules_of site.entry.limits) site.entry.limits site.entry.cell.now site.entry.plant.now time packet.now (state_in self.old) }
     {
         refusals::of_packet(
             site.limits,
@@ -289,7 +293,7 @@ impl Gateway<'_> {
 
 // The entry of the side lists that decides on an address, by value: its number, and what stands in the part that the lookup hands back.
 fn deciding_entry(site: Site<'_>, address: u32) -> Entry
-    ensures { result ≡ deciding_entry site.cell.now site.plant.now address }
+    ensures { result ≡ deciding_entry site.entry.cell.now site.entry.plant.now address }
 {
     let winning = sides::winning_entry(site.cell, site.plant, address);
     sides::entry_in(winning.number, sides::winner(site.cell, site.plant, address))
@@ -297,7 +301,7 @@ fn deciding_entry(site: Site<'_>, address: u32) -> Entry
 
 // A packet that is dropped with a verdict: what it met, which facts would have had it forwarded, and the entries that made it ours.
 fn drop_of(site: Site<'_>, header: Header, verdict: Verdict, met: Met) -> Drop
-    ensures { result ≡ drop_of (rules_of site.limits) site.cell.now site.plant.now header verdict met }
+    ensures { result ≡ drop_of (rules_of site.entry.limits) site.entry.cell.now site.entry.plant.now header verdict met }
 {
     let threshold = site.limits.threshold;
     let marks = records::marks_of(met.byte);
@@ -317,7 +321,7 @@ fn drop_of(site: Site<'_>, header: Header, verdict: Verdict, met: Met) -> Drop
 
 // Explains a packet of ours by what it meets.
 fn explain_met(site: Site<'_>, header: Header, from_plant: bool, met: Met) -> Explanation
-    ensures { result ≡ why_met (rules_of site.limits) site.cell.now site.plant.now header from_plant met }
+    ensures { result ≡ why_met (rules_of site.entry.limits) site.entry.cell.now site.entry.plant.now header from_plant met }
 {
     let blocked = counts::is_blocked(met.count, site.limits.threshold);
     let marks = records::marks_of(met.byte);
@@ -333,7 +337,7 @@ impl View<'_> {
     // those of its line.
     fn met_at(self, limits: Limits, spot: Spot, time: u32) -> Met
         requires { spot.slot < length self.records.now }
-        ensures { result ≡ met_in spot (onward 1 limits time (seen_in self)).tables }
+        ensures { result ≡ met_in spot (onward 1 limits time (seen_in self.entry)).tables }
     {
         let minutes = tables::clock::multiples_passed(60, self.clock, time);
         let multiples =
@@ -346,10 +350,11 @@ impl View<'_> {
     }
 
     // Explains a packet of ours, at a time.
+    #[tactic(auto, unfolding(crate::specs::Why::why_ours))]
     fn explain_ours(self, site: Site<'_>, header: Header, from_plant: bool, time: u32) -> Explanation
         requires { bad_sizes (length self.records.now) (length self.tags.now) (length self.counts.now) ≡ false }
-        ensures { result ≡ why_ours (rules_of site.limits) self.placing site.cell.now site.plant.now header from_plant
-            (onward 1 site.limits time (seen_in self)).tables }
+        ensures { result ≡ why_ours (rules_of site.entry.limits) self.entry.placing site.entry.cell.now site.entry.plant.now header from_plant
+            (onward 1 site.entry.limits time (seen_in self.entry)).tables }
     {
         let spot = spot_of(
             self.placing,
@@ -362,6 +367,7 @@ impl View<'_> {
     }
 
     // Explains a packet by its direction, at a time.
+    #[tactic(auto, unfolding(crate::specs::Why::why_by_direction))]
     fn explain_by_direction(
         self,
         site: Site<'_>,
@@ -370,8 +376,8 @@ impl View<'_> {
         time: u32,
     ) -> Explanation
         requires { bad_sizes (length self.records.now) (length self.tags.now) (length self.counts.now) ≡ false }
-        ensures { result ≡ why_by_direction (rules_of site.limits) self.placing site.cell.now site.plant.now header direction
-            (onward 1 site.limits time (seen_in self)).tables }
+        ensures { result ≡ why_by_direction (rules_of site.entry.limits) self.entry.placing site.entry.cell.now site.entry.plant.now header direction
+            (onward 1 site.entry.limits time (seen_in self.entry)).tables }
     {
         match direction {
             Direction::NotOurs => Explanation::NotOurs,
@@ -383,9 +389,10 @@ impl View<'_> {
     // Why a packet that comes at a time is dropped: which of four facts, changed alone, would have had it forwarded, with the entries of the
     // side lists that decided, the count and T; or the verdict alone where it is not dropped. It is refused as the packet would be. Tables,
     // clock and lists are only read, and no table is swept or copied.
+    #[tactic(auto, unfolding(crate::specs::Why::why_of, packet::specs::Header::read_of))]
     pub fn why(self, site: Site<'_>, time: u32, packet: &[u8]) -> Result<Explanation, Refusal>
         ensures { result
-            ≡ why_of (rules_of site.limits) site.limits site.cell.now site.plant.now time packet.now (seen_in self) }
+            ≡ why_of (rules_of site.entry.limits) site.entry.limits site.entry.cell.now site.entry.plant.now time packet.now (seen_in self.entry) }
     {
         refusals::of_packet(
             site.limits,

@@ -1,0 +1,9 @@
+-- `Gateway::judge` meets its contract: what is not refused has good sizes.
+-- Assumes nothing.
+use Rattle.refused.proofs.Told.{passed_tests}
+use Rattle.refusals.proofs.Tests.{good_sizes}
+use Rattle.gateway.proofs.Gateway.judge.Goals as goal
+
+pub accept-requires : goal.accept-requires
+accept-requires c =
+    good_sizes _ _ _ _ _ _ _ _ (passed_tests _ _ _ _ c.of_packet.ensures c.in_ok-of_packet.was)

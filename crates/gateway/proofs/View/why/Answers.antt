@@ -1,0 +1,9 @@
+-- `View::why` meets its contract: what is not refused has good sizes.
+-- Assumes nothing.
+use Rattle.refused.proofs.Told.{passed_tests}
+use Rattle.refusals.proofs.Tests.{good_sizes}
+use Rattle.gateway.proofs.View.why.Goals as goal
+
+pub explain_by_direction-requires : goal.explain_by_direction-requires
+explain_by_direction-requires c =
+    good_sizes _ _ _ _ _ _ _ _ (passed_tests _ _ _ _ c.of_packet.ensures c.in_ok-of_packet.was)
