@@ -3,7 +3,7 @@
 use mathlib.Core.List.{List}
 use mathlib.Core.Path.{◌≡◌, refl}
 use Prim.Native.Nat.{ℕ}
-use Rattle.std.specs.Prelude.{Option, None, Some, Result}
+use Rattle.std.specs.Prelude.{Option, None, Some}
 use Rattle.refused.specs.declared.Refusal.{Refusal}
 use Rattle.refused.specs.Refused.{refusal_of}
 use Rattle.settings.specs.declared.Limits.{Limits}

@@ -11,6 +11,7 @@ use Rattle.sides.specs.declared.Direction.{Direction}
 use Rattle.packet.specs.declared.Header.{Header}
 use Rattle.packet.specs.Header.{header_refusal, header_of}
 use Rattle.places.specs.declared.Placing.{Placing}
+use Rattle.tables.specs.declared.sizes.Sizes.{Sizes}
 use Rattle.tables.specs.Tables.{Tables, tables_of}
 use Rattle.tables.specs.Clock.{Timed, timed_of, time_passed}
 use Rattle.rulings.specs.declared.answers.Answer.{Answer}
@@ -77,6 +78,10 @@ module _ (placing : Placing) (records tags : Both (MutBor (List ℕ)) (MutBor (L
 abbrev pub unless_refused : {A : Type 0} → Option Refusal → State → After A → After (Result A Refusal)
 unless_refused None before after = after_call (Ok after.answer) after.state
 unless_refused (Some refusal) before after = after_call (Err refusal) before
+
+-- how many records, tags and counts there are
+abbrev pub sizes_of : Tables → Sizes
+sizes_of tables = record { records = length tables.records; tags = length tables.tags; counts = length tables.counts }
 
 -- a test of how many records, tags and counts there are
 abbrev pub by_sizes : {A : Type 0} → (ℕ → ℕ → ℕ → A) → Tables → A

@@ -7,7 +7,7 @@ ghost use Rattle.sides.specs.Lists.{deciding_entry};
 ghost use Rattle.tables.specs.Sizes.{bad_sizes};
 ghost use Rattle.rulings.specs.Rules.{cell_of, plant_of, slot_rule, rules_of};
 ghost use Rattle.gateway.specs.Packets.{replacement_of, spot_of, ruling_at, settled, ours, by_direction};
-ghost use Rattle.gateway.specs.Calls.{SameMemory, state_in, seen_in, after_call, with_outcome, onward, started, passed, accepted, judged};
+ghost use Rattle.gateway.specs.Calls.{SameMemory, state_in, seen_in, after_call, with_outcome, sizes_of, onward, started, passed, accepted, judged};
 ghost use Rattle.gateway.specs.Why.{met_in, drop_of, why_met, why_ours, why_by_direction, why_of};
 
 use packet::Header;
@@ -18,6 +18,7 @@ use rulings::Ruling;
 use rulings::answers::Answer;
 use settings::{Limits, Settings};
 use sides::{Direction, Entry};
+use tables::sizes::Sizes;
 use verdicts::Verdict;
 
 // A gateway in its caller's memory: what places packets in its tables, the tables, and the clock. Before its start it has no keys: each is 0.
@@ -99,13 +100,13 @@ fn slot_of(placing: Placing, header: Header, from_plant: bool, records: u32) -> 
 }
 
 // Where a packet of ours is looked up in tables of these lengths.
-fn spot_of(placing: Placing, header: Header, from_plant: bool, records: usize, tags: usize) -> Spot
-    requires { (records ≤ 1048576) × (tags ≤ 1048576) }
-    ensures { result ≡ spot_of slot_rule placing header from_plant records tags }
+fn spot_of(placing: Placing, header: Header, from_plant: bool, sizes: Sizes) -> Spot
+    requires { (sizes.records ≤ 1048576) × (sizes.tags ≤ 1048576) }
+    ensures { result ≡ spot_of slot_rule placing header from_plant sizes.records sizes.tags }
 {
-    let lines = (tags / 4) as u32;
+    let lines = (sizes.tags / 4) as u32;
     Spot {
-        slot: slot_of(placing, header, from_plant, records as u32) as usize,
+        slot: slot_of(placing, header, from_plant, sizes.records as u32) as usize,
         lines,
         place: places::place_of(&placing.keys, cell_of(header, from_plant), lines),
     }
@@ -120,6 +121,16 @@ fn replacement_of(keys: &[u32; 8], lines: u32, line: u32, replaced: Option<u32>)
 }
 
 impl Gateway<'_> {
+    fn sizes(&self) -> Sizes
+        ensures { result ≡ sizes_of (state_in self.now).tables }
+    {
+        Sizes {
+            records: self.records.len(),
+            tags: self.tags.len(),
+            counts: self.counts.len(),
+        }
+    }
+
     // Starts cold: every record and tag 0, every count -32,768, the clock at the time, and from then on the settings' keys. It is refused by
     // 1 or 2, and then nothing is changed.
     #[tactic(auto, unfolding(crate::specs::Calls::started))]
@@ -127,12 +138,7 @@ impl Gateway<'_> {
         ensures same_memory { SameMemory self.old self.new }
         ensures state { after_call result (state_in self.new) ≡ started set time (state_in self.old) }
     {
-        refusals::of_start(
-            set.limits,
-            self.records.len(),
-            self.tags.len(),
-            self.counts.len(),
-        )?;
+        refusals::of_start(set.limits, self.sizes())?;
         cold::fill(self.records, self.tags, self.counts);
         *self.clock = time;
         let keys = set.keys;
@@ -146,14 +152,7 @@ impl Gateway<'_> {
         ensures same_memory { SameMemory self.old self.new }
         ensures state { after_call result (state_in self.new) ≡ passed (rules_of limits) limits time (state_in self.old) }
     {
-        refusals::of_time(
-            limits,
-            self.records.len(),
-            self.tags.len(),
-            self.counts.len(),
-            *self.clock,
-            time,
-        )?;
+        refusals::of_time(limits, self.sizes(), *self.clock, time)?;
         self.go_on(limits, time);
         Ok(())
     }
@@ -213,13 +212,7 @@ impl Gateway<'_> {
         ensures state { after_call result (state_in self.new)
             ≡ with_outcome (state_in self.old) (ours (rules_of limits) self.old.placing header from_plant (state_in self.old).tables) }
     {
-        let spot = spot_of(
-            self.placing,
-            header,
-            from_plant,
-            self.records.len(),
-            self.tags.len(),
-        );
+        let spot = spot_of(self.placing, header, from_plant, self.sizes());
         let ruling = self.ruling_at(limits, header, from_plant, spot);
         self.settle(spot, ruling)
     }
@@ -263,17 +256,19 @@ impl Gateway<'_> {
     {
         refusals::of_packet(
             site.limits,
-            self.records.len(),
-            self.tags.len(),
-            self.counts.len(),
+            self.sizes(),
             site.cell,
             site.plant,
             *self.clock,
             time,
         )?;
         let header = packet::read(packet)?;
-        let direction =
-            sides::direction_between(site.cell, site.plant, header.source, header.destination);
+        let direction = sides::direction_between(
+            site.cell,
+            site.plant,
+            header.source,
+            header.destination,
+        );
         Ok(self.accept(site.limits, header, direction, time))
     }
 
@@ -296,7 +291,10 @@ fn deciding_entry(site: Site<'_>, address: u32) -> Entry
     ensures { result ≡ deciding_entry site.entry.cell.now site.entry.plant.now address }
 {
     let winning = sides::winning_entry(site.cell, site.plant, address);
-    sides::entry_in(winning.number, sides::winner(site.cell, site.plant, address))
+    sides::entry_in(
+        winning.number,
+        sides::winner(site.cell, site.plant, address),
+    )
 }
 
 // A packet that is dropped with a verdict: what it met, which facts would have had it forwarded, and the entries that made it ours.
@@ -333,6 +331,16 @@ fn explain_met(site: Site<'_>, header: Header, from_plant: bool, met: Met) -> Ex
 }
 
 impl View<'_> {
+    fn sizes(self) -> Sizes
+        ensures { result ≡ sizes_of (seen_in self.entry).tables }
+    {
+        Sizes {
+            records: self.records.len(),
+            tags: self.tags.len(),
+            counts: self.counts.len(),
+        }
+    }
+
     // What a packet of ours would meet at a time: one record aged and one count decayed as the clock would do it. No other is looked at but
     // those of its line.
     fn met_at(self, limits: Limits, spot: Spot, time: u32) -> Met
@@ -340,8 +348,7 @@ impl View<'_> {
         ensures { result ≡ met_in spot (onward 1 limits time (seen_in self.entry)).tables }
     {
         let minutes = tables::clock::multiples_passed(60, self.clock, time);
-        let multiples =
-            tables::clock::multiples_passed(u32::from(limits.dmiss), self.clock, time);
+        let multiples = tables::clock::multiples_passed(u32::from(limits.dmiss), self.clock, time);
         let count = entries::count_of(self.tags, self.counts, spot.place.line, spot.place.tag);
         Met {
             byte: records::aged(self.records[spot.slot], minutes, limits.dconn),
@@ -351,19 +358,24 @@ impl View<'_> {
 
     // Explains a packet of ours, at a time.
     #[tactic(auto, unfolding(crate::specs::Why::why_ours))]
-    fn explain_ours(self, site: Site<'_>, header: Header, from_plant: bool, time: u32) -> Explanation
+    fn explain_ours(
+        self,
+        site: Site<'_>,
+        header: Header,
+        from_plant: bool,
+        time: u32,
+    ) -> Explanation
         requires { bad_sizes (length self.records.now) (length self.tags.now) (length self.counts.now) ≡ false }
         ensures { result ≡ why_ours (rules_of site.entry.limits) self.entry.placing site.entry.cell.now site.entry.plant.now header from_plant
             (onward 1 site.entry.limits time (seen_in self.entry)).tables }
     {
-        let spot = spot_of(
-            self.placing,
+        let spot = spot_of(self.placing, header, from_plant, self.sizes());
+        explain_met(
+            site,
             header,
             from_plant,
-            self.records.len(),
-            self.tags.len(),
-        );
-        explain_met(site, header, from_plant, self.met_at(site.limits, spot, time))
+            self.met_at(site.limits, spot, time),
+        )
     }
 
     // Explains a packet by its direction, at a time.
@@ -396,17 +408,19 @@ impl View<'_> {
     {
         refusals::of_packet(
             site.limits,
-            self.records.len(),
-            self.tags.len(),
-            self.counts.len(),
+            self.sizes(),
             site.cell,
             site.plant,
             self.clock,
             time,
         )?;
         let header = packet::read(packet)?;
-        let direction =
-            sides::direction_between(site.cell, site.plant, header.source, header.destination);
+        let Header {
+            source,
+            destination,
+            ..
+        } = header;
+        let direction = sides::direction_between(site.cell, site.plant, source, destination);
         Ok(self.explain_by_direction(site, header, direction, time))
     }
 }

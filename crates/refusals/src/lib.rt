@@ -7,16 +7,17 @@ ghost use Rattle.refusals.specs.Refusals.{start_refusal, time_refusal, early_ref
 
 use refused::Refusal;
 use settings::Limits;
+use tables::sizes::Sizes;
 
 // Tests what a cold start is given: it is refused by 1 or 2.
 #[tactic(auto, unfolding(crate::specs::Refusals::start_refusal))]
-pub fn of_start(limits: Limits, records: usize, tags: usize, counts: usize) -> Result<(), Refusal>
-    ensures { result ≡ answer_unless (start_refusal limits records tags counts) tt }
+pub fn of_start(limits: Limits, sizes: Sizes) -> Result<(), Refusal>
+    ensures { result ≡ answer_unless (start_refusal limits sizes.records sizes.tags sizes.counts) tt }
 {
     if limits.is_bad() {
         return Err(Refusal::Settings);
     }
-    if tables::sizes::bad_sizes(records, tags, counts) {
+    if sizes.are_bad() {
         return Err(Refusal::Sizes);
     }
     Ok(())
@@ -26,15 +27,13 @@ pub fn of_start(limits: Limits, records: usize, tags: usize, counts: usize) -> R
 #[tactic(auto, unfolding(crate::specs::Refusals::start_refusal, crate::specs::Refusals::time_refusal))]
 pub fn of_time(
     limits: Limits,
-    records: usize,
-    tags: usize,
-    counts: usize,
+    sizes: Sizes,
     clock: u32,
     time: u32,
 ) -> Result<(), Refusal>
-    ensures { result ≡ answer_unless (time_refusal limits records tags counts clock time) tt }
+    ensures { result ≡ answer_unless (time_refusal limits sizes.records sizes.tags sizes.counts clock time) tt }
 {
-    of_start(limits, records, tags, counts)?;
+    of_start(limits, sizes)?;
     if time < clock {
         return Err(Refusal::Time);
     }
@@ -45,17 +44,15 @@ pub fn of_time(
 #[tactic(auto, unfolding(crate::specs::Refusals::start_refusal, crate::specs::Refusals::early_refusal))]
 pub fn of_packet(
     limits: Limits,
-    records: usize,
-    tags: usize,
-    counts: usize,
+    sizes: Sizes,
     cell: &[u8],
     plant: &[u8],
     clock: u32,
     time: u32,
 ) -> Result<(), Refusal>
-    ensures { result ≡ answer_unless (early_refusal limits records tags counts cell.now plant.now clock time) tt }
+    ensures { result ≡ answer_unless (early_refusal limits sizes.records sizes.tags sizes.counts cell.now plant.now clock time) tt }
 {
-    of_start(limits, records, tags, counts)?;
+    of_start(limits, sizes)?;
     if sides::bad_list(cell) {
         return Err(Refusal::Lists);
     }

@@ -36,9 +36,20 @@ fn fits_entries(entries: usize) -> bool
     (entries == 4) | ((entries == 8) | fits_records(entries))
 }
 
-// Refusal 2: whether some table's length is not one that it may have, or those of tags and counts differ.
-pub fn bad_sizes(records: usize, tags: usize, counts: usize) -> bool
-    ensures { result ≡ bad_sizes records tags counts }
-{
-    (!fits_records(records) | !fits_entries(tags)) | (tags != counts)
+// How many records, tags and counts the tables have.
+#[derive(Clone, Copy)]
+pub struct Sizes {
+    pub records: usize,
+    pub tags: usize,
+    pub counts: usize,
+}
+
+impl Sizes {
+    // Refusal 2: whether some table's length is not one that it may have, or those of tags and counts differ.
+    #[tactic(auto, unfolding(crate::specs::Sizes::bad_sizes))]
+    pub fn are_bad(self) -> bool
+        ensures { result ≡ bad_sizes self.records self.tags self.counts }
+    {
+        (!fits_records(self.records) | !fits_entries(self.tags)) | (self.tags != self.counts)
+    }
 }

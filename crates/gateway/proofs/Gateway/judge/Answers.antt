@@ -6,4 +6,4 @@ use Rattle.gateway.proofs.Gateway.judge.Goals as goal
 
 pub accept-requires : goal.accept-requires
 accept-requires c =
-    good_sizes _ _ _ _ _ _ _ _ (passed_tests _ _ _ _ c.of_packet.ensures c.in_ok-of_packet.was)
+    good_sizes _ _ _ _ _ _ _ _ (rw c.sizes.ensures at (passed_tests _ _ _ _ c.of_packet.ensures c.in_ok-of_packet.was))
