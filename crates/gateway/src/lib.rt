@@ -263,12 +263,8 @@ impl Gateway<'_> {
             time,
         )?;
         let header = packet::read(packet)?;
-        let direction = sides::direction_between(
-            site.cell,
-            site.plant,
-            header.source,
-            header.destination,
-        );
+        let (from, to) = (header.source, header.destination);
+        let direction = sides::direction_between(site.cell, site.plant, from, to);
         Ok(self.accept(site.limits, header, direction, time))
     }
 
