@@ -23,7 +23,8 @@ use Rattle.places.specs.declared.Placing.{Placing}
 use Rattle.places.specs.Places.{place_of}
 use Rattle.records.specs.Records.{marks_of, is_unmarked, is_cold}
 use Rattle.counts.specs.Counts.{is_blocked}
-use Rattle.std.specs.Prelude.{None, Option, Some}
+use Rattle.std.specs.Prelude.{None, Option, Some, Ok, Err}
+use Rattle.refused.specs.declared.Refusal.{Refusal}
 use Rattle.entries.specs.Entries.{Written, written_of, written}
 use Rattle.entries.proofs.Readback.{same_lengths}
 use Rattle.entries.proofs.Once.{Once, once_after}
@@ -33,17 +34,15 @@ use Rattle.verdicts.specs.declared.Verdict.TheVariants.{Uncounted, CreditOfOne, 
 use Rattle.verdicts.specs.Verdicts.{number_of, record_after}
 use Rattle.rulings.specs.declared.answers.Answer.{Answer}
 use Rattle.rulings.specs.declared.answers.Answer.TheVariants as answer
-use Rattle.rulings.specs.declared.answers.Replacement.{Replacement}
-use Rattle.rulings.specs.Answers.{address_told}
 use Rattle.rulings.specs.Rules.{Rules}
 use Rattle.rulings.specs.Rulings.{counted_by, verdict_by, new_count, ruling_of}
-use Rattle.gateway.specs.Packets.{Outcome, spot_of, ruling_at, replacement_of, settled, ours, direction_in, is_from_plant, by_direction}
+use Rattle.gateway.specs.Packets.{Outcome, spot_of, ruling_at, replacement_of, settled, ours, direction_in, by_direction}
 use Rattle.refusals.proofs.Tests.{packet_in_order}
 use Rattle.gateway.specs.Calls.{State, After, unless_refused, packet_refusal, accepted, judged}
 use Rattle.gateway.proofs.Steps.{first_none}
 use Rattle.history.specs.Runs.{Site, Start, Event, judged_at}
 use Rattle.history.specs.Told.{judgement_by, one_or_none}
-use Rattle.history.specs.Fresh.{Ours, ours_of, cell_address, forwards, credit_of, replacements, slot_for, forwarded_on, credits, is_fresh, fresh_contacts}
+use Rattle.history.specs.Fresh.{Ours, is_from_plant, ours_of, cell_address, forwards, credit_of, replacements, slot_for, forwarded_on, credits, is_fresh, fresh_contacts}
 use Rattle.books.proofs.Apart.{twice_not, not_some}
 use Rattle.books.proofs.Account.{StaysOrNamed, reaches, under, recast, on_named, holds_blocked}
 use Rattle.books.proofs.Slots.{told_of, is_four, Ruled, ruled, forwarded_record, dropped_record, Kept, kept_forwarded}
@@ -123,11 +122,11 @@ module _ (x : Setup) (start : Start) where
         (written place.line place.tag (counted_by count n).count s.tables.tags s.tables.counts)
         (written_of None s.tables.tags s.tables.counts)
 
-    abbrev gone_by : Option ℤ → Replacement
+    abbrev gone_by : Option ℤ → Option ℕ
     gone_by n = replacement_of keys (lines_in s) place.line (wrote n).replaced
 
     abbrev named : ℕ → Option ℤ → ℕ
-    named address n = times_in address (one_or_none (address_told (gone_by n)))
+    named address n = times_in address (one_or_none (gone_by n))
 
     abbrev byte_after : ℕ
     byte_after = record_after packet.from_plant packet.header.transport.kind verdict byte
@@ -142,7 +141,7 @@ module _ (x : Setup) (start : Start) where
         }
 
     abbrev judged_event : Event
-    judged_event = judged_at s.clock bytes (answer.Judged verdict (counted_by count new).count (gone_by new))
+    judged_event = judged_at s.clock bytes (Ok (answer.Judged verdict (counted_by count new).count (gone_by new)))
 
     slot_lt : slot < site.records
     slot_lt = x.ok.slot_lt site.placing packet.header packet.from_plant site.records x.some_records
@@ -323,10 +322,10 @@ module _ (x : Setup) (start : Start) where
 
     stepped_ours : (clock : ℕ) (from_plant : Bool) → (ours_of site bytes).from_plant ≡ from_plant
         → Stepped x start clock h (state_by s (ours r s.placing (header_of bytes) from_plant s.tables))
-        (judged_at s.clock bytes (ours r s.placing (header_of bytes) from_plant s.tables).answer)
+        (judged_at s.clock bytes (Ok (ours r s.placing (header_of bytes) from_plant s.tables).answer))
     unfolding ruling_of
     stepped_ours clock from_plant e =
-        subst (λ (outcome : Outcome). Stepped x start clock h (state_by s outcome) (judged_at s.clock bytes outcome.answer)) (ours_is from_plant e)
+        subst (λ (outcome : Outcome). Stepped x start clock h (state_by s outcome) (judged_at s.clock bytes (Ok outcome.answer))) (ours_is from_plant e)
         (stepped_judged s h i bytes small clock)
 
   -- ---- any packet
@@ -335,17 +334,17 @@ module _ (x : Setup) (start : Start) where
     by direction = accepted site.rules site.limits (header_of bytes) direction time s
 
     by_direction_lem : s.clock ≤ time → (direction : Direction) → direction_in site.cell site.plant (header_of bytes) ≡ direction
-        → Stepped x start s.clock h (by direction).state (judged_at time bytes (by direction).answer)
+        → Stepped x start s.clock h (by direction).state (judged_at time bytes (Ok (by direction).answer))
     unfolding by_direction
     by_direction_lem l FromCell e =
-        subst (λ (t : ℕ). Stepped x start s.clock h (by FromCell).state (judged_at t bytes (by FromCell).answer))
+        subst (λ (t : ℕ). Stepped x start s.clock h (by FromCell).state (judged_at t bytes (Ok (by FromCell).answer)))
         (clock_at x s time l) (stepped_ours (timed x time s) h (run_onward x start time l i) bytes small s.clock false (ap is_from_plant e))
     by_direction_lem l FromPlant e =
-        subst (λ (t : ℕ). Stepped x start s.clock h (by FromPlant).state (judged_at t bytes (by FromPlant).answer))
+        subst (λ (t : ℕ). Stepped x start s.clock h (by FromPlant).state (judged_at t bytes (Ok (by FromPlant).answer)))
         (clock_at x s time l) (stepped_ours (timed x time s) h (run_onward x start time l i) bytes small s.clock true (ap is_from_plant e))
-    by_direction_lem l NotOurs e = stepped_quiet x start (run_onward x start time l i) (judged_at time bytes answer.NotOurs) refl (clock_at x s time l)
+    by_direction_lem l NotOurs e = stepped_quiet x start (run_onward x start time l i) (judged_at time bytes (Ok answer.NotOurs)) refl (clock_at x s time l)
 
-    early : packet_refusal site.limits site.cell site.plant time bytes s ≡ 0 → s.clock ≤ time
+    early : packet_refusal site.limits site.cell site.plant time bytes s ≡ None → s.clock ≤ time
     early e =
         packet_in_order site.limits (length s.tables.records) (length s.tables.tags) (length s.tables.counts) site.cell site.plant s.clock time
         (first_none _ (header_refusal bytes) e)
@@ -358,7 +357,7 @@ module _ (x : Setup) (start : Start) where
         after : After Answer
         after = by (direction_in site.cell site.plant (header_of bytes))
 
-        go : (n : ℕ) → packet_refusal site.limits site.cell site.plant time bytes s ≡ n
-            → Stepped x start s.clock h (unless_refused answer.Refused n s after).state (judged_at time bytes (unless_refused answer.Refused n s after).answer)
-        go zero e = by_direction_lem (early e) (direction_in site.cell site.plant (header_of bytes)) refl
-        go (suc n) e = stepped_quiet x start i (judged_at time bytes (answer.Refused (suc n))) refl refl
+        go : (refusal : Option Refusal) → packet_refusal site.limits site.cell site.plant time bytes s ≡ refusal
+            → Stepped x start s.clock h (unless_refused refusal s after).state (judged_at time bytes (unless_refused refusal s after).answer)
+        go None e = by_direction_lem (early e) (direction_in site.cell site.plant (header_of bytes)) refl
+        go (Some refusal) e = stepped_quiet x start i (judged_at time bytes (Err refusal)) refl refl

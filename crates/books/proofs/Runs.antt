@@ -7,16 +7,15 @@ use mathlib.Core.Path.{◌≡◌, refl, ap, subst, ◌∙◌}
 use Prim.Native.Nat.{ℕ, zero, suc, ◌+◌, ◌*◌, ◌^◌, ◌≤◌, ◌<◌, min}
 use lib.Dec.{eqb}
 use lib.ListN.{length}
-use Rattle.std.specs.Prelude.{Option, None, Some}
+use Rattle.std.specs.Prelude.{Option, None, Some, Result, Ok, Err}
+use Rattle.refused.specs.declared.Refusal.{Refusal}
 use Rattle.laws.proofs.Signed.{up, dn}
 use Rattle.tables.specs.Clock.{multiples_passed}
 use Rattle.rulings.specs.declared.answers.Answer.{Answer}
 use Rattle.rulings.specs.Answers.{verdict_told}
 use Rattle.rulings.specs.Rules.{Rules}
 use Rattle.refusals.proofs.Tests.{time_in_order}
-use Rattle.gateway.specs.declared.Reply.{Reply}
-use Rattle.gateway.specs.declared.Reply.TheVariants.{Refused, Done}
-use Rattle.gateway.specs.Calls.{State, After, unless_refused, time_refusal_at, passed}
+use Rattle.gateway.specs.Calls.{State, After, after_call, unless_refused, time_refusal_at, passed}
 use Rattle.history.specs.Runs.{Site, Start, Call, packet_at, time_alone, why_at, bytes_to_judge, Event, judged_at, passed_at, explained_at, state_after, event_of, left_by, history}
 use Rattle.history.specs.Told.{JudgedPacket, judgement_by, told}
 use Rattle.history.specs.Fresh.{ours_of, cell_address, tells, replacements, or_before, clock_after, packet_in, decays, credits, is_fresh, fresh_by, fresh_contacts}
@@ -58,15 +57,15 @@ module _ (x : Setup) (start : Start) where
     unfolding passed
     stepped_passed time = go (time_refusal_at site.limits time s) refl
       where
-        after : After Reply
-        after = record { answer = Done; state = timed x time s }
+        after : After (Unit {0})
+        after = after_call tt (timed x time s)
 
-        go : (n : ℕ) → time_refusal_at site.limits time s ≡ n
-            → Stepped x start s.clock h (unless_refused Refused n s after).state (passed_at time (unless_refused Refused n s after).answer)
-        go zero e =
+        go : (refusal : Option Refusal) → time_refusal_at site.limits time s ≡ refusal
+            → Stepped x start s.clock h (unless_refused refusal s after).state (passed_at time (unless_refused refusal s after).answer)
+        go None e =
             let l = time_in_order site.limits (length s.tables.records) (length s.tables.tags) (length s.tables.counts) s.clock time e in
-            stepped_quiet x start (run_onward x start time l i) (passed_at time Done) refl (clock_at x s time l)
-        go (suc n) e = stepped_quiet x start i (passed_at time (Refused (suc n))) refl refl
+            stepped_quiet x start (run_onward x start time l i) (passed_at time (Ok tt)) refl (clock_at x s time l)
+        go (Some refusal) e = stepped_quiet x start i (passed_at time (Err refusal)) refl refl
 
     -- one clause for each sort
     stepped : (call : Call) → Fit x (bytes_to_judge call) → Stepped x start s.clock h (state_after site s call) (event_of site s call)
@@ -111,7 +110,7 @@ module _ (x : Setup) (start : Start) where
     rightly_at (call ∷ calls) fit (y ∷ newer) older event e = rightly_at calls fit.1 newer older event (same_tail e)
 
     -- verdict 4 is answered exactly to fresh contacts
-    pub four_is_fresh : (calls : List Call) → AllFit x calls → (newer older : List Event) (time : ℕ) (bytes : List ℕ) (answered : Answer)
+    pub four_is_fresh : (calls : List Call) → AllFit x calls → (newer older : List Event) (time : ℕ) (bytes : List ℕ) (answered : Result Answer Refusal)
         → happened calls ≡ newer ++ (judged_at time bytes answered ∷ older)
         → is_fresh site start time (ours_of site bytes) (verdict_told answered) older ≡ tells 4 (verdict_told answered)
     four_is_fresh calls fit newer older time bytes answered e =
@@ -148,7 +147,7 @@ module _ (x : Setup) (start : Start) where
 
     -- No packet is dropped as blocked before enough fresh contacts of its address were forwarded, from any start: "blocking needs T less
     -- that count, or T where the count is negative".
-    pub not_before : (calls : List Call) → AllFit x calls → (newer older : List Event) (time : ℕ) (bytes : List ℕ) (answered : Answer)
+    pub not_before : (calls : List Call) → AllFit x calls → (newer older : List Event) (time : ℕ) (bytes : List ℕ) (answered : Result Answer Refusal)
         → happened calls ≡ newer ++ (judged_at time bytes answered ∷ older) → verdict_told answered ≡ Some 6 → Enough x start bytes older
     not_before calls fit newer older time bytes answered e six =
         (subst (λ (verdict : Option ℕ). Rightly x start older (judgement_by time bytes verdict)) six

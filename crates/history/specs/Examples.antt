@@ -1,16 +1,15 @@
 -- Small histories, made by hand, and what document 01's section "Fresh, from history" says of each: F, H, R and D. A slot is here the plant
 -- address modulo 16, so that it can be seen; Dconn is 10, Dmiss 60, and the start is at second 100.
 -- Assumes nothing.
-use Rattle.std.specs.Prelude.{cond, List, [], ◌∷◌, ℕ, ◌%◌, pos, None}
+use Rattle.std.specs.Prelude.{cond, List, [], ◌∷◌, ℕ, ◌%◌, pos, Some, None, Ok, Err}
+use Rattle.refused.specs.declared.Refusal.TheVariants as refusal
 use Rattle.settings.specs.declared.Settings.{Settings}
 use Rattle.settings.specs.Settings.{factory_settings, with_threshold}
 use Rattle.verdicts.specs.declared.Verdict.{Verdict}
 use Rattle.verdicts.specs.declared.Verdict.TheVariants.{Uncounted, CreditOfOne, CreditOfTwo, FreshContact, Blocked}
 use Rattle.reasons.specs.declared.Explanation.TheVariants as explanation
-use Rattle.rulings.specs.declared.answers.Replacement.TheVariants.{None, Address}
-use Rattle.rulings.specs.declared.answers.Answer.TheVariants.{Refused, NotOurs, Judged}
+use Rattle.rulings.specs.declared.answers.Answer.TheVariants.{NotOurs, Judged}
 use Rattle.rulings.specs.Rules.{Rules}
-use Rattle.gateway.specs.declared.Reply.TheVariants as reply
 use Rattle.gateway.specs.Calls.{state_of, cold_placing}
 use Rattle.history.specs.Runs.{Site, Start, started_cold, Event, judged_at, passed_at, explained_at}
 use Rattle.history.specs.Fresh.{replacements, decays, credits, fresh_contacts}
@@ -57,14 +56,14 @@ back machine stranger flags =
 
 -- a packet that was judged; count and replaced address matter to none but R
 abbrev judged : ℕ → List ℕ → Verdict → Event
-judged time bytes verdict = judged_at time bytes (Judged verdict (pos 0) None)
+judged time bytes verdict = judged_at time bytes (Ok (Judged verdict (pos 0) None))
 
 abbrev replacing : ℕ → Event
-replacing address = judged_at 100 (sent 2 1 2) (Judged FreshContact (pos 1) (Address address))
+replacing address = judged_at 100 (sent 2 1 2) (Ok (Judged FreshContact (pos 1) (Some address)))
 
 -- the question why of a packet from 10.0.0.1 to 192.168.0.1, and the verdict that was explained
 abbrev asked : ℕ → Verdict → Event
-asked time verdict = explained_at time (sent 1 1 2) (explanation.Forwarded verdict)
+asked time verdict = explained_at time (sent 1 1 2) (Ok (explanation.Forwarded verdict))
 
 -- of 10.0.0.1
 abbrev F : List Event → ℕ
@@ -104,7 +103,7 @@ examples =
     -- a dropped packet is neither fresh nor makes a slot live, and a refused one is nothing
     example (F (judged 100 (sent 1 1 2) Blocked ∷ [])) 0 ∷
     example (F (judged 100 (sent 1 1 2) FreshContact ∷ judged 100 (sent 1 1 2) Blocked ∷ [])) 1 ∷
-    example (F (judged 100 (sent 1 1 2) FreshContact ∷ judged_at 100 (sent 1 1 2) (Refused 4) ∷ [])) 1 ∷
+    example (F (judged 100 (sent 1 1 2) FreshContact ∷ judged_at 100 (sent 1 1 2) (Err refusal.Time) ∷ [])) 1 ∷
     -- the question why is no contact and makes no slot live
     example (F (judged 100 (sent 1 1 2) FreshContact ∷ asked 100 FreshContact ∷ [])) 1 ∷
     -- other slots and other machines do not matter, but connections that share a slot share its life
@@ -118,7 +117,7 @@ examples =
     example (R (replacing 0x0A000001 ∷ replacing 0x0A000003 ∷ [])) 1 ∷
     -- D: "the multiples of Dmiss passed since the cold start", at 120 and 180; a refused call and the question why pass no
     -- time, a packet that is not ours does
-    example (D (passed_at 180 reply.Done ∷ [])) 2 ∷
-    example (D (passed_at 300 (reply.Refused 4) ∷ judged_at 240 (sent 1 1 2) (Refused 5) ∷ judged 180 (sent 1 1 2) FreshContact ∷ [])) 2 ∷
-    example (D (asked 240 FreshContact ∷ judged_at 180 (sent 1 1 2) NotOurs ∷ [])) 2 ∷
-    example (D (judged_at 119 (sent 1 1 2) NotOurs ∷ [])) 0 ∷ []
+    example (D (passed_at 180 (Ok tt) ∷ [])) 2 ∷
+    example (D (passed_at 300 (Err refusal.Time) ∷ judged_at 240 (sent 1 1 2) (Err refusal.Short) ∷ judged 180 (sent 1 1 2) FreshContact ∷ [])) 2 ∷
+    example (D (asked 240 FreshContact ∷ judged_at 180 (sent 1 1 2) (Ok NotOurs) ∷ [])) 2 ∷
+    example (D (judged_at 119 (sent 1 1 2) (Ok NotOurs) ∷ [])) 0 ∷ []

@@ -7,9 +7,11 @@ use Rattle.laws.specs.Times.{times_in}
 use Rattle.packet.specs.declared.Header.{Header}
 use Rattle.packet.specs.Header.{header_of}
 use Rattle.tables.specs.Clock.{multiples_passed}
+use Rattle.sides.specs.declared.Direction.{Direction}
+use Rattle.sides.specs.declared.Direction.TheVariants.{FromCell, FromPlant, NotOurs}
 use Rattle.verdicts.specs.Verdicts.{is_closing}
 use Rattle.rulings.specs.Rules.{cell_of}
-use Rattle.gateway.specs.Packets.{direction_in, is_from_plant}
+use Rattle.gateway.specs.Packets.{direction_in}
 use Rattle.history.specs.Runs.{Site, Start, Event}
 use Rattle.history.specs.Told.{JudgedPacket, told}
 
@@ -17,6 +19,11 @@ use Rattle.history.specs.Told.{JudgedPacket, told}
 pub record Ours : Type 0 where
   pub header : Header
   pub from_plant : Bool
+
+abbrev pub is_from_plant : Direction → Bool
+is_from_plant FromCell = false
+is_from_plant FromPlant = true
+is_from_plant NotOurs = false
 
 abbrev pub ours_of : Site → List ℕ → Ours
 ours_of site bytes =

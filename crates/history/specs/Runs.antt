@@ -1,13 +1,13 @@
 -- A run of the gateway: where it begins, calls one after another, and what is known of them afterwards, which is each call's input and its
 -- answer. Lists stand newest first.
 -- Assumes nothing.
-use Rattle.std.specs.Prelude.{Bool, false, List, [], ◌∷◌, ℕ, ℤ, pos}
+use Rattle.std.specs.Prelude.{Bool, false, List, [], ◌∷◌, ℕ, ℤ, pos, Result}
+use Rattle.refused.specs.declared.Refusal.{Refusal}
 use Rattle.settings.specs.declared.Limits.{Limits}
 use Rattle.places.specs.declared.Placing.{Placing}
 use Rattle.reasons.specs.declared.Explanation.{Explanation}
 use Rattle.rulings.specs.declared.answers.Answer.{Answer}
 use Rattle.rulings.specs.Rules.{Rules}
-use Rattle.gateway.specs.declared.Reply.{Reply}
 use Rattle.gateway.specs.Calls.{State, passed, judged}
 use Rattle.gateway.specs.Why.{why_of}
 
@@ -47,9 +47,9 @@ bytes_to_judge (why_at time bytes) = []
 
 -- a call, and what it was answered
 pub data Event : Type 0 where
-  judged_at : ℕ → List ℕ → Answer → Event
-  passed_at : ℕ → Reply → Event
-  explained_at : ℕ → List ℕ → Explanation → Event
+  judged_at : ℕ → List ℕ → Result Answer Refusal → Event
+  passed_at : ℕ → Result (Unit {0}) Refusal → Event
+  explained_at : ℕ → List ℕ → Result Explanation Refusal → Event
 
 module _ (site : Site) where
   -- one call: the very definitions that the contracts of `judge`, `pass` and `why` cite. `why` is lent everything for reading alone: it

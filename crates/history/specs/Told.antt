@@ -2,8 +2,9 @@
 -- what sort these are.
 -- Assumes nothing.
 use Rattle.std.specs.Prelude.{List, [], ◌∷◌, ℕ, zero, suc, Option, None, Some}
-use Rattle.rulings.specs.Answers.{refusal_told, verdict_told, replaced_told}
-use Rattle.gateway.specs.Calls.{refusal_in}
+use Rattle.refused.specs.declared.Refusal.{Refusal}
+use Rattle.refused.specs.Refused.{refusal_of}
+use Rattle.rulings.specs.Answers.{verdict_told, replaced_told}
 use Rattle.history.specs.Runs.{Event, judged_at, passed_at, explained_at}
 
 -- a packet of ours that was judged: when, its bytes, and the verdict's number
@@ -20,9 +21,9 @@ pub record Told : Type 0 where
   pub lost : List ℕ
 
 -- a call that is not refused sets the clock to its time
-abbrev pub time_set : ℕ → ℕ → Option ℕ
-time_set zero time = Some time
-time_set (suc number) time = None
+abbrev pub time_set : Option Refusal → ℕ → Option ℕ
+time_set None time = Some time
+time_set (Some refusal) time = None
 
 -- "0 not ours", and 1 to 6 for a packet of ours
 abbrev pub judgement_by : ℕ → List ℕ → Option ℕ → Option JudgedPacket
@@ -42,9 +43,9 @@ only_time clock = record { clock = clock; judged = None; lost = [] }
 abbrev pub told : Event → Told
 told (judged_at time bytes answered) =
     record {
-      clock = time_set (refusal_told answered) time;
+      clock = time_set (refusal_of answered) time;
       judged = judgement_by time bytes (verdict_told answered);
       lost = one_or_none (replaced_told answered);
     }
-told (passed_at time reply) = only_time (time_set (refusal_in reply) time)
+told (passed_at time reply) = only_time (time_set (refusal_of reply) time)
 told (explained_at time bytes why) = only_time None
