@@ -9,6 +9,8 @@ use lib.Dec.{leb}
 use lib.IntN.{pos}
 use lib.ListN.{length, get_or, replicate, length-replicate}
 use lib.Pow.{pow_pos}
+use Rattle.std.specs.Prelude.{Option}
+use Rattle.refused.specs.declared.Refusal.{Refusal}
 use Rattle.laws.specs.Signed.{minus}
 use Rattle.laws.proofs.Signed.{le_in, one_part}
 use Rattle.laws.proofs.Tests.{true_is_not_false}
@@ -28,8 +30,7 @@ use Rattle.tables.proofs.Powers.{Sized, sized}
 use Rattle.rulings.specs.Rules.{cell_of, rules_of}
 use Rattle.cold.specs.Cold.{cold_tables}
 use Rattle.refusals.proofs.Tests.{good_start}
-use Rattle.gateway.specs.declared.Reply.TheVariants.{Refused, Done}
-use Rattle.gateway.specs.Calls.{State, unless_refused, unstarted, cold_state, started}
+use Rattle.gateway.specs.Calls.{State, after_call, unless_refused, unstarted, cold_state, started}
 use Rattle.history.specs.Runs.{started_cold, Call, bytes_to_judge}
 use Rattle.history.specs.Fresh.{ours_of}
 use Rattle.books.proofs.Apart.{not_some}
@@ -108,7 +109,7 @@ module _ (g : Gateway) (cold : StartsCold g) where
   first_is : first g ≡ started_cold cold_state_lem
   unfolding started
   first_is =
-      ap (λ (number : ℕ). started_cold (unless_refused Refused number (unstarted g.tables g.clock) (record { answer = Done; state = cold_state_lem })).state) cold.not_refused
+      ap (λ (refusal : Option Refusal). started_cold (unless_refused refusal (unstarted g.tables g.clock) (after_call tt cold_state_lem)).state) cold.not_refused
 
   -- every record is 0, and no address has an entry
   zero_record : (n slot : ℕ) → ◌≡◌ {A = ℕ} (get_or (replicate n 0) slot 0) 0

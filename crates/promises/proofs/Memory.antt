@@ -6,7 +6,8 @@ use mathlib.Core.Path.{◌≡◌, refl, sym, ap, ◌∙◌}
 use Prim.Native.Nat.{ℕ, ◌<◌}
 use lib.ListN.{get_or}
 use borrow.Author.Tests.{eqb-true, not-true}
-use Rattle.std.specs.Prelude.{Option, None, Some}
+use Rattle.std.specs.Prelude.{Option, None, Some, Result}
+use Rattle.refused.specs.declared.Refusal.{Refusal}
 use Rattle.laws.proofs.Tests.{true_is_not_false}
 use Rattle.rulings.specs.declared.answers.Answer.{Answer}
 use Rattle.rulings.specs.Answers.{verdict_told}
@@ -31,7 +32,7 @@ module _ (g : Gateway) (cold : StartsCold g) (calls : List Call) (bytes : OfByte
   unfolding setup
   answered_as_fresh address = answered (setup g cold) (first g) (good_first g cold) calls (all_fit g cold calls bytes) address
 
-  four : (after before : List Event) (time : ℕ) (packet : List ℕ) (answered : Answer) → happened g calls ≡ after ++ (judged_at time packet answered ∷ before)
+  four : (after before : List Event) (time : ℕ) (packet : List ℕ) (answered : Result Answer Refusal) → happened g calls ≡ after ++ (judged_at time packet answered ∷ before)
       → is_fresh (site g) (first g) time (ours_of (site g) packet) (verdict_told answered) before ≡ tells 4 (verdict_told answered)
   unfolding setup
   four = four_is_fresh (setup g cold) (first g) (good_first g cold) calls (all_fit g cold calls bytes)

@@ -3,7 +3,8 @@
 -- of its is dropped as blocked until at least T of its fresh contacts were forwarded. Fresh is judged from the packet history by document
 -- 01, not from stored marks."
 -- Assumes nothing.
-use Rattle.std.specs.Prelude.{List, [], ◌∷◌, ◌++◌, ◌≡◌, ℕ, ◌+◌, ◌*◌, ◌^◌, ◌≤◌, ◌<◌, length, Some}
+use Rattle.std.specs.Prelude.{List, [], ◌∷◌, ◌++◌, ◌≡◌, ℕ, ◌+◌, ◌*◌, ◌^◌, ◌≤◌, ◌<◌, length, Some, None, Result}
+use Rattle.refused.specs.declared.Refusal.{Refusal}
 use Rattle.settings.specs.declared.Settings.{Settings}
 use Rattle.tables.specs.Tables.{Tables}
 use Rattle.rulings.specs.declared.answers.Answer.{Answer}
@@ -30,7 +31,7 @@ EachBelow limit (x ∷ xs) = (x < limit) × EachBelow limit xs
 
 -- the cold start is not refused. That keys are 32-bit words, and packets made of bytes, is what the types of the code's arguments say.
 pub record StartsCold (g : Gateway) : Type 0 where
-  pub not_refused : start_refusal_at g.settings.limits (unstarted g.tables g.clock) ≡ 0
+  pub not_refused : start_refusal_at g.settings.limits (unstarted g.tables g.clock) ≡ None
   pub keys_are_words : EachBelow (2 ^ 32) g.settings.keys
 
 abbrev pub OfBytes : List Call → Type 0
@@ -89,6 +90,6 @@ module _ (g : Gateway) where
     pub bounded : (address : ℕ) → address < 2 ^ 32 → F address (happened calls) ≤ most address (happened calls)
     -- "no packet of its is dropped as blocked until at least T of its fresh contacts were forwarded": wherever 6 was answered, by what
     -- came before
-    pub not_before : (after before : List Event) (time : ℕ) (bytes : List ℕ) (answered : Answer)
+    pub not_before : (after before : List Event) (time : ℕ) (bytes : List ℕ) (answered : Result Answer Refusal)
         → happened calls ≡ after ++ (judged_at time bytes answered ∷ before) → verdict_told answered ≡ Some 6
         → least ≤ F (cell_address (ours_of site bytes)) before

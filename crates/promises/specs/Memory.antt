@@ -2,7 +2,8 @@
 -- boundaries since the last packet forwarded there. So no remembered connection outlasts Dconn boundaries. And in every run a packet is
 -- answered 4 exactly if it is a fresh contact.
 -- Assumes nothing.
-use Rattle.std.specs.Prelude.{false, List, ◌∷◌, ◌++◌, ◌↔◌, ◌≡◌, ℕ, ◌<◌, get_or, Some}
+use Rattle.std.specs.Prelude.{false, List, ◌∷◌, ◌++◌, ◌↔◌, ◌≡◌, ℕ, ◌<◌, get_or, Some, Result}
+use Rattle.refused.specs.declared.Refusal.{Refusal}
 use Rattle.records.specs.Records.{is_cold, age_of}
 use Rattle.tables.specs.Clock.{multiples_passed}
 use Rattle.rulings.specs.declared.answers.Answer.{Answer}
@@ -30,6 +31,6 @@ module _ (g : Gateway) where
         → (last : Forwarded) (earlier : List Forwarded) → forwarded_at calls slot ≡ last ∷ earlier
         → age_of (record_at calls slot) ≡ multiples_passed 60 last.time (state_after_all calls).clock
     -- "4 forwarded, fresh contact": wherever a packet was answered, by what came before
-    pub four_exactly_if_fresh : (after before : List Event) (time : ℕ) (bytes : List ℕ) (answered : Answer)
+    pub four_exactly_if_fresh : (after before : List Event) (time : ℕ) (bytes : List ℕ) (answered : Result Answer Refusal)
         → happened g calls ≡ after ++ (judged_at time bytes answered ∷ before)
         → (verdict_told answered ≡ Some 4) ↔ Fresh (site g) time (ours_of (site g) bytes) (verdict_told answered) before
