@@ -3,7 +3,7 @@
 -- Assumes nothing.
 use mathlib.Core.Bool.{true, false}
 use mathlib.Core.Path.{◌≡◌, refl}
-use Rattle.std.specs.Prelude.{Some}
+use Rattle.std.specs.Prelude.{Some, None}
 use Rattle.laws.specs.Search.{every, first_below, foremost}
 use Rattle.laws.specs.Times.{times, how_many}
 use Rattle.settings.specs.declared.Limits.{Limits}
@@ -31,7 +31,7 @@ use Rattle.witnesses.proofs.Permuted.{permuted}
 abbrev limits : Limits
 limits = gateway.settings.limits
 
-accepted : packet_refusal limits gateway.cell gateway.plant 100 syn_fin state ≡ 0
+accepted : packet_refusal limits gateway.cell gateway.plant 100 syn_fin state ≡ None
 unfolding every bad_limits bad_sizes bad_list early_refusal needed header_refusal
 accepted = refl
 

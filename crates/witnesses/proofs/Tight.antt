@@ -11,6 +11,8 @@ use lib.Dec.{ltb}
 use lib.IntN.{ℤ, pos}
 use lib.ListN.{replicate}
 use borrow.Author.Tests.{ltb-true}
+use Rattle.std.specs.Prelude.{Option, Some, None, Result, Ok}
+use Rattle.refused.specs.declared.Refusal.{Refusal}
 use Rattle.laws.specs.Signed.{minus}
 use Rattle.laws.specs.Search.{every, first_below, foremost}
 use Rattle.laws.specs.Times.{times, how_many, times_in}
@@ -30,8 +32,6 @@ use Rattle.tables.specs.Clock.{multiples_passed, time_passed}
 use Rattle.verdicts.specs.declared.Verdict.{Verdict}
 use Rattle.verdicts.specs.declared.Verdict.TheVariants.{CreditOfTwo, FreshContact, Blocked}
 use Rattle.verdicts.specs.Verdicts.{from_the_plant, from_the_cell, from_blocked_cell, verdict_of, record_after}
-use Rattle.rulings.specs.declared.answers.Replacement.{Replacement}
-use Rattle.rulings.specs.declared.answers.Replacement.TheVariants.{None, Address}
 use Rattle.rulings.specs.declared.answers.Answer.{Answer}
 use Rattle.rulings.specs.declared.answers.Answer.TheVariants.{Judged}
 use Rattle.rulings.specs.Rules.{rules_of}
@@ -59,10 +59,10 @@ pub record Row : Type 0 where
   pub bytes : List ℕ
   pub verdict : Verdict
   pub count : ℤ
-  pub replaced : Replacement
+  pub replaced : Option ℕ
   pub state : State
 
-abbrev row : ℕ → List ℕ → Verdict → ℤ → Replacement → State → Row
+abbrev row : ℕ → List ℕ → Verdict → ℤ → Option ℕ → State → Row
 row time bytes verdict count replaced state =
     record { time = time; bytes = bytes; verdict = verdict; count = count; replaced = replaced; state = state }
 
@@ -75,23 +75,23 @@ state_before [] = state_at (replicate 16 0) (replicate 4 0) (replicate 4 (minus 
 state_before (row ∷ rows) = row.state
 
 -- what the gateway makes of each, and what is said of it
-abbrev pub judged_here : ℕ → List ℕ → State → After Answer
+abbrev pub judged_here : ℕ → List ℕ → State → After (Result Answer Refusal)
 judged_here = judged (rules_of gateway.settings.limits) gateway.settings.limits gateway.cell gateway.plant
 
-abbrev pub made : List Row → List (After Answer)
+abbrev pub made : List Row → List (After (Result Answer Refusal))
 made [] = []
 made (row ∷ rows) =
     judged_here row.time row.bytes (state_before rows) ∷ made rows
 
-abbrev pub said : List Row → List (After Answer)
+abbrev pub said : List Row → List (After (Result Answer Refusal))
 said [] = []
-said (row ∷ rows) = record { answer = Judged row.verdict row.count row.replaced; state = row.state } ∷ said rows
+said (row ∷ rows) = record { answer = Ok (Judged row.verdict row.count row.replaced); state = row.state } ∷ said rows
 
 abbrev calls_of : List Row → List Call
 calls_of rows = map (λ row. packet_at row.time row.bytes) rows
 
 abbrev events_of : List Row → List Event
-events_of rows = map (λ row. judged_at row.time row.bytes (Judged row.verdict row.count row.replaced)) rows
+events_of rows = map (λ row. judged_at row.time row.bytes (Ok (Judged row.verdict row.count row.replaced))) rows
 
 -- ---- the runs, newest first
 -- the first two packets: a contact, and its answer
@@ -112,8 +112,8 @@ abbrev all_rows : List Row
 all_rows =
     row 120 (syn 1 2049) Blocked (pos 2) None (state_at (65 ∷ 64 ∷ 65 ∷ 64 ∷ 65 ∷ 64 ∷ 64 ∷ 64 ∷ 193 ∷ 64 ∷ 0 ∷ 64 ∷ 0 ∷ 64 ∷ 64 ∷ 64 ∷ []) (0xFCE676E6 ∷ 0x732FCEE7 ∷ 0xF90E4EE6 ∷ 0x83294EE6 ∷ []) (pos 2 ∷ pos 2 ∷ pos 2 ∷ pos 2 ∷ []) 120) ∷
     row 120 (syn 1 2049) FreshContact (pos 2) None (state_at (65 ∷ 64 ∷ 65 ∷ 64 ∷ 65 ∷ 64 ∷ 64 ∷ 64 ∷ 193 ∷ 64 ∷ 0 ∷ 64 ∷ 0 ∷ 64 ∷ 64 ∷ 64 ∷ []) (0xFCE676E6 ∷ 0x732FCEE7 ∷ 0xF90E4EE6 ∷ 0x83294EE6 ∷ []) (pos 2 ∷ pos 2 ∷ pos 2 ∷ pos 2 ∷ []) 120) ∷
-    row 120 (syn 1 27017) FreshContact (pos 1) (Address 0x0A000005) (state_at (65 ∷ 0 ∷ 65 ∷ 64 ∷ 65 ∷ 64 ∷ 64 ∷ 64 ∷ 193 ∷ 64 ∷ 0 ∷ 64 ∷ 0 ∷ 64 ∷ 64 ∷ 64 ∷ []) (0xFCE676E6 ∷ 0x732FCEE7 ∷ 0xF90E4EE6 ∷ 0x83294EE6 ∷ []) (pos 1 ∷ pos 2 ∷ pos 2 ∷ pos 2 ∷ []) 120) ∷
-    row 120 (syn 5 6379) FreshContact (pos 1) (Address 0x0A000001) (state_at (65 ∷ 0 ∷ 65 ∷ 64 ∷ 65 ∷ 0 ∷ 64 ∷ 64 ∷ 193 ∷ 64 ∷ 0 ∷ 64 ∷ 0 ∷ 64 ∷ 64 ∷ 64 ∷ []) (0xC0FE76E7 ∷ 0x732FCEE7 ∷ 0xF90E4EE6 ∷ 0x83294EE6 ∷ []) (pos 1 ∷ pos 2 ∷ pos 2 ∷ pos 2 ∷ []) 120) ∷
+    row 120 (syn 1 27017) FreshContact (pos 1) (Some 0x0A000005) (state_at (65 ∷ 0 ∷ 65 ∷ 64 ∷ 65 ∷ 64 ∷ 64 ∷ 64 ∷ 193 ∷ 64 ∷ 0 ∷ 64 ∷ 0 ∷ 64 ∷ 64 ∷ 64 ∷ []) (0xFCE676E6 ∷ 0x732FCEE7 ∷ 0xF90E4EE6 ∷ 0x83294EE6 ∷ []) (pos 1 ∷ pos 2 ∷ pos 2 ∷ pos 2 ∷ []) 120) ∷
+    row 120 (syn 5 6379) FreshContact (pos 1) (Some 0x0A000001) (state_at (65 ∷ 0 ∷ 65 ∷ 64 ∷ 65 ∷ 0 ∷ 64 ∷ 64 ∷ 193 ∷ 64 ∷ 0 ∷ 64 ∷ 0 ∷ 64 ∷ 64 ∷ 64 ∷ []) (0xC0FE76E7 ∷ 0x732FCEE7 ∷ 0xF90E4EE6 ∷ 0x83294EE6 ∷ []) (pos 1 ∷ pos 2 ∷ pos 2 ∷ pos 2 ∷ []) 120) ∷
     row 120 (syn 4 4840) FreshContact (pos 2) None (state_at (65 ∷ 0 ∷ 65 ∷ 64 ∷ 65 ∷ 0 ∷ 64 ∷ 64 ∷ 193 ∷ 64 ∷ 0 ∷ 64 ∷ 0 ∷ 64 ∷ 64 ∷ 0 ∷ []) (0xFCE676E6 ∷ 0x732FCEE7 ∷ 0xF90E4EE6 ∷ 0x83294EE6 ∷ []) (pos 2 ∷ pos 2 ∷ pos 2 ∷ pos 2 ∷ []) 120) ∷
     row 120 (syn 4 6379) FreshContact (pos 1) None (state_at (65 ∷ 0 ∷ 65 ∷ 0 ∷ 65 ∷ 0 ∷ 64 ∷ 64 ∷ 193 ∷ 64 ∷ 0 ∷ 64 ∷ 0 ∷ 64 ∷ 64 ∷ 0 ∷ []) (0xFCE676E6 ∷ 0x732FCEE7 ∷ 0xF90E4EE6 ∷ 0x83294EE6 ∷ []) (pos 2 ∷ pos 2 ∷ pos 2 ∷ pos 1 ∷ []) 120) ∷
     row 120 (syn 3 4840) FreshContact (pos 2) None (state_at (65 ∷ 0 ∷ 65 ∷ 0 ∷ 65 ∷ 0 ∷ 64 ∷ 64 ∷ 193 ∷ 64 ∷ 0 ∷ 64 ∷ 0 ∷ 0 ∷ 64 ∷ 0 ∷ []) (0xFCE676E6 ∷ 0x732FCEE7 ∷ 0xF90E4EE6 ∷ 0 ∷ []) (pos 2 ∷ pos 2 ∷ pos 2 ∷ minus 32768 ∷ []) 120) ∷
@@ -127,7 +127,7 @@ exactly_rows =
     row 100 (syn 1 4840) FreshContact (pos 2) None (state_at (0 ∷ 0 ∷ 64 ∷ 0 ∷ 0 ∷ 0 ∷ 0 ∷ 0 ∷ 64 ∷ 0 ∷ 0 ∷ 0 ∷ 0 ∷ 0 ∷ 0 ∷ 0 ∷ []) (0xFCE676E6 ∷ 0 ∷ 0 ∷ 0 ∷ []) (pos 2 ∷ minus 32768 ∷ minus 32768 ∷ minus 32768 ∷ []) 100) ∷
     row 100 (syn 1 6379) FreshContact (pos 1) None (state_at (0 ∷ 0 ∷ 0 ∷ 0 ∷ 0 ∷ 0 ∷ 0 ∷ 0 ∷ 64 ∷ 0 ∷ 0 ∷ 0 ∷ 0 ∷ 0 ∷ 0 ∷ 0 ∷ []) (0xFCE676E6 ∷ 0 ∷ 0 ∷ 0 ∷ []) (pos 1 ∷ minus 32768 ∷ minus 32768 ∷ minus 32768 ∷ []) 100) ∷ []
 
-and_then : {x y : After Answer} {xs ys : List (After Answer)} → x ≡ y → xs ≡ ys → x ∷ xs ≡ y ∷ ys
+and_then : {x y : After (Result Answer Refusal)} {xs ys : List (After (Result Answer Refusal))} → x ≡ y → xs ≡ ys → x ∷ xs ≡ y ∷ ys
 and_then p q = λ i. p i ∷ q i
 
 pub opening_made : made opening_rows ≡ said opening_rows
@@ -175,7 +175,7 @@ unfolding left_by state_after
 left_is [] e = refl
 left_is (row ∷ rows) e =
     ap (λ (s : State). (judged_here row.time row.bytes s).state) (left_is rows (same_tail e))
-    ∙ ap (λ (after : After Answer). after.state) (same_head e)
+    ∙ ap (λ (after : After (Result Answer Refusal)). after.state) (same_head e)
 
 history_is : (rows : List Row) → made rows ≡ said rows → history (site gateway) (started_cold cold) (calls_of rows) ≡ events_of rows
 unfolding left_by history event_of
@@ -184,10 +184,10 @@ history_is (row ∷ rows) e =
     λ i. judged_at row.time row.bytes (answer i) ∷ history_is rows (same_tail e) i
   where
     answer : (judged_here row.time row.bytes (left_by (site gateway) (started_cold cold) (calls_of rows))).answer
-        ≡ Judged row.verdict row.count row.replaced
+        ≡ Ok (Judged row.verdict row.count row.replaced)
     answer =
         ap (λ (s : State). (judged_here row.time row.bytes s).answer) (left_is rows (same_tail e))
-        ∙ ap (λ (after : After Answer). after.answer) (same_head e)
+        ∙ ap (λ (after : After (Result Answer Refusal)). after.answer) (same_head e)
 
 pub cold_is : (first gateway).state ≡ cold
 unfolding started start_refusal bad_limits bad_sizes cold_tables
@@ -242,7 +242,7 @@ pub every_term : (0 < D gateway (happened gateway allowed)) × (0 < H gateway ma
 every_term = (omega (arith, each_counts), omega (arith, each_counts), omega (arith, each_counts))
 
 -- and then it gets not one more
-pub no_more : (before : List Event) × (happened gateway allowed ≡ judged_at 120 (syn 1 2049) (Judged Blocked (pos 2) None) ∷ before)
+pub no_more : (before : List Event) × (happened gateway allowed ≡ judged_at 120 (syn 1 2049) (Ok (Judged Blocked (pos 2) None)) ∷ before)
 no_more = (_, happened_is all_rows all_made)
 
 -- ---- blocked after exactly T
@@ -252,7 +252,7 @@ two_rows =
     row 100 (syn 1 6379) FreshContact (pos 1) None (state_at (0 ∷ 0 ∷ 0 ∷ 0 ∷ 0 ∷ 0 ∷ 0 ∷ 0 ∷ 64 ∷ 0 ∷ 0 ∷ 0 ∷ 0 ∷ 0 ∷ 0 ∷ 0 ∷ []) (0xFCE676E6 ∷ 0 ∷ 0 ∷ 0 ∷ []) (pos 1 ∷ minus 32768 ∷ minus 32768 ∷ minus 32768 ∷ []) 100) ∷ []
 
 pub blocked_after_T : (before : List Event)
-    × (happened gateway exactly ≡ judged_at 100 (syn 1 11211) (Judged Blocked (pos 2) None) ∷ before)
+    × (happened gateway exactly ≡ judged_at 100 (syn 1 11211) (Ok (Judged Blocked (pos 2) None)) ∷ before)
     × (F gateway machine before ≡ least gateway)
 unfolding left_by state_after event_of history every first_below foremost holds rank_at rank_of best_number best_in decided header_of
 blocked_after_T =
@@ -261,5 +261,5 @@ blocked_after_T =
     asked : List Call
     asked = why_at 100 (syn 1 11211) ∷ calls_of two_rows
 
-    happened_exactly : happened gateway exactly ≡ judged_at 100 (syn 1 11211) (Judged Blocked (pos 2) None) ∷ happened gateway asked
+    happened_exactly : happened gateway exactly ≡ judged_at 100 (syn 1 11211) (Ok (Judged Blocked (pos 2) None)) ∷ happened gateway asked
     happened_exactly = λ i. same_head (happened_is exactly_rows exactly_made) i ∷ happened gateway asked

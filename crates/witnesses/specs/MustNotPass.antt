@@ -2,24 +2,25 @@
 -- no table, one that judges the first packet and repeats itself (demand 2 excludes all four)". Each is said of any gateway whatever, by its
 -- answers and by what it leaves, and of one that meets the contracts it is not so (`must_not_pass`, proofs/MustNotPass).
 -- Assumes nothing.
-use Rattle.std.specs.Prelude.{List, ◌≡◌, ℕ, ◌<◌, Some}
+use Rattle.std.specs.Prelude.{List, ◌≡◌, ℕ, ◌<◌, Some, Result}
+use Rattle.refused.specs.declared.Refusal.{Refusal}
+use Rattle.refused.specs.Refused.{refusal_in}
 use Rattle.settings.specs.declared.Limits.{Limits}
 use Rattle.settings.specs.declared.Settings.{Settings}
 use Rattle.tables.specs.Tables.{Tables}
 use Rattle.rulings.specs.declared.answers.Answer.{Answer}
-use Rattle.rulings.specs.Answers.{refusal_told, verdict_told}
+use Rattle.rulings.specs.Answers.{verdict_told}
 use Rattle.rulings.specs.Rules.{rules_of}
-use Rattle.gateway.specs.declared.Reply.{Reply}
 use Rattle.gateway.specs.Calls.{State, After, unstarted, started, passed, judged}
 
 -- any gateway, by what its three calls answer and leave: a cold start, which is lent tables and a clock, a time alone, a packet
 pub record AnyGateway : Type 0 where
-  pub start : Settings → ℕ → Tables → ℕ → After Reply
-  pub pass : Limits → ℕ → State → After Reply
-  pub judge : Limits → List ℕ → List ℕ → ℕ → List ℕ → State → After Answer
+  pub start : Settings → ℕ → Tables → ℕ → After (Result (Unit {0}) Refusal)
+  pub pass : Limits → ℕ → State → After (Result (Unit {0}) Refusal)
+  pub judge : Limits → List ℕ → List ℕ → ℕ → List ℕ → State → After (Result Answer Refusal)
 
 module _ (g : AnyGateway) where
-  -- the contracts of `cold_start`, `pass` and `judge`
+  -- the contracts of `start`, `pass` and `judge`
   pub record MeetsContracts : Type 0 where
     pub of_start : (settings : Settings) (time : ℕ) (tables : Tables) (clock : ℕ)
         → g.start settings time tables clock ≡ started settings time (unstarted tables clock)
@@ -31,7 +32,7 @@ module _ (g : AnyGateway) where
   abbrev pub RefusesAlways : Type 0
   RefusesAlways =
       (limits : Limits) (cell plant : List ℕ) (time : ℕ) (bytes : List ℕ) (before : State)
-      → 0 < refusal_told (g.judge limits cell plant time bytes before).answer
+      → 0 < refusal_in (g.judge limits cell plant time bytes before).answer
 
   -- "one that says 1 to all"
   abbrev pub SaysOneToAll : Type 0
