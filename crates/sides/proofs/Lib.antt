@@ -1,4 +1,5 @@
 -- What is proved of side lists beyond the contracts.
+pub mod Chunks
 pub mod Steps
 pub mod Longest
 pub mod Winners

@@ -9,11 +9,12 @@ use native.Mathlib.Numerals.{add-one}
 use lib.Dec.{leb, ltb}
 use lib.ListN.{length}
 use borrow.Author.Tests.{lt-ltb, le-ltb, ltb-true, lt-leb, le-leb, eq-eqb, ne_eqb}
+use Rattle.laws.proofs.Tests.{Which, below, above, which}
 use Rattle.laws.proofs.Search.{Leading, by_size, lead_start, lead_found, lead_kept, lead_end, lead_is}
 use Rattle.sides.specs.declared.Best.{Best}
 use Rattle.sides.specs.declared.Side.{Side}
 use Rattle.sides.specs.declared.Side.TheVariants.{Cell, Plant, Neither}
-use Rattle.sides.specs.Lists.{entries, net_at, prefix_at, holds, rank_at, rank_of, best_number, best_in, decided, side_by}
+use Rattle.sides.specs.Lists.{entries, net_at, prefix_at, holds, rank_at, rank_of, best_number, better, best_in, decided, side_by}
 
 -- ---- the rank of an entry
 module _ (l : List ℕ) (address k : ℕ) where
@@ -62,6 +63,15 @@ module _ (l : List ℕ) (address : ℕ) where
           is = s.is;
         }
 
+  -- as the code keeps them
+  pub best_or : {k : ℕ} (best : Best) → Besting l address best.number best.rank k → k < entries l → (found : ℕ) → found ≡ rank_at l address k
+      → Besting l address (better best (k + 1) found).number (better best (k + 1) found).rank (k + 1)
+  best_or {k} best s more found is = go (which best.rank found)
+    where
+      go : Which best.rank found → Besting l address (better best (k + 1) found).number (better best (k + 1) found).rank (k + 1)
+      go (below h) = rw (lt-ltb _ _ h) (best_better s more found is h)
+      go (above h) = rw (le-ltb _ _ h) (best_kept s more found is h)
+
   pub best_end : {number top k : ℕ} → Besting l address number top k → entries l ≤ k → record { number = number; rank = top } ≡ best_in l address
   unfolding best_in best_number
   best_end {number} {top} {k} s h =
@@ -108,6 +118,10 @@ made f inCell inPlant cell plant neither = by (ltb inCell.rank inPlant.rank) (lt
     by true c = refl
     by false true = refl
     by false false = refl
+
+-- the side that the code decided, by what each list had
+pub decides : {x y c p : Best} {s t : Side} → x ≡ c → y ≡ p → s ≡ t → s ≡ side_by x y → t ≡ side_by c p
+decides ofCell ofPlant is by = sym is ∙ by ∙ (λ i. side_by (ofCell i) (ofPlant i))
 
 -- what a side picks of three
 abbrev pub picked {ℓ} : {A : Type ℓ} → A → A → A → Side → A

@@ -5,7 +5,6 @@ use Rattle.std.specs.Borrow.{Bor}
 use Rattle.laws.specs.Search.{every, foremost}
 use Rattle.words.specs.Words.{four_at, whole}
 use Rattle.sides.specs.declared.Best.{Best}
-use Rattle.sides.specs.declared.BestOfTwo.{BestOfTwo}
 use Rattle.sides.specs.declared.Side.{Side}
 use Rattle.sides.specs.declared.Side.TheVariants.{Cell, Plant, Neither}
 use Rattle.sides.specs.declared.Winning.{Winning}
@@ -48,9 +47,9 @@ best_number l address = foremost leb (rank_of l address) (suc (entries l))
 unfoldable pub best_in : List ℕ → ℕ → Best
 best_in l address = record { number = best_number l address; rank = rank_of l address (best_number l address) }
 
--- the same for two addresses
-abbrev pub best_of_two : List ℕ → ℕ → ℕ → BestOfTwo
-best_of_two l first second = record { first = best_in l first; second = best_in l second }
+-- the better of what was kept and an entry of this number and rank
+abbrev pub better : Best → ℕ → ℕ → Best
+better kept number rank = cond (ltb kept.rank rank) (record { number = number; rank = rank }) kept
 
 -- "An address belongs to the list with the longest prefix that holds it; at equal length the cell list wins"
 unfoldable pub decided {ℓ} : {A : Type ℓ} → Best → Best → A → A → A → A

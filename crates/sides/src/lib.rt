@@ -2,11 +2,13 @@
 // prefix length.
 #![tactic(auto)]
 
-ghost use Rattle.std.specs.Prelude.{◌≡◌, ◌+◌, ◌*◌, ◌-◌, ◌<◌, ◌≤◌, length, get_or};
-ghost use Rattle.sides.specs.Lists.{bad_list, rank_at, best_in, best_of_two, entry_of, past, winner_of, winner_at, winning_of, entry_in, side_by, direction_of, direction_between};
+ghost use Rattle.std.specs.Prelude.{◌≡◌, ◌+◌, ◌*◌, ◌-◌, ◌<◌, ◌≤◌, ℕ, length, get_or, slice_index, slice_index_or, leb};
+ghost use Rattle.std.specs.List.{list_all};
+ghost use Rattle.sides.specs.declared.Best.{Best};
+ghost use Rattle.sides.specs.Lists.{bad_list, rank_at, better, best_in, entry_of, past, winner_of, winner_at, winning_of, entry_in, side_by, direction_of, direction_between};
 
 // The side that an address belongs to: outside, inside, or neither list holds it.
-#[derive(Clone, Copy)]
+#[derive(Clone, Copy, PartialEq, Eq)]
 pub enum Side {
     Cell,
     Plant,
@@ -14,7 +16,7 @@ pub enum Side {
 }
 
 // Whose packet it is: ours when one end is cell and the other plant, and then from which of them.
-#[derive(Clone, Copy)]
+#[derive(Clone, Copy, PartialEq, Eq)]
 pub enum Direction {
     FromCell,
     FromPlant,
@@ -23,17 +25,11 @@ pub enum Direction {
 
 // What a list has for an address: the number, from 1, of the entry that holds it best, and that entry's prefix length plus one. Both
 // are 0 where no entry holds the address.
+// Kept: rank 0 and no Option, with which `direction_between` takes 96 instructions for an entry of both lists, and so 42 (callgrind).
 #[derive(Clone, Copy)]
 struct Best {
     number: usize,
     rank: u8,
-}
-
-// What a list has for two addresses.
-#[derive(Clone, Copy)]
-struct BestOfTwo {
-    first: Best,
-    second: Best,
 }
 
 // Where the winning entry of an address stands: the side whose list has it, and its number there, from 1.
@@ -53,88 +49,77 @@ pub struct Entry {
 }
 
 // Refusal 3: whether a side list is not of whole entries, has over 64 of them, or a prefix length over 32.
+#[tactic(auto, unfolding(crate::specs::Lists::bad_list))]
 pub fn bad_list(list: &[u8]) -> bool
     ensures { result ≡ bad_list list.now }
 {
-    let entries = list.len() / 5;
-    if (list.len() % 5 != 0) | (64 < entries) {
-        return true;
-    }
-    for k in 0..entries {
-        if 32 < list[5 * k + 4] {
-            return true;
-        }
-    }
-    false
+    let (entries, rest) = list.as_chunks::<5>();
+    let too_many = 64 < entries.len();
+    !rest.is_empty() || too_many || !all_short(entries)
+}
+
+// Whether the prefix length of each entry is at most 32.
+fn all_short(entries: &[[u8; 5]]) -> bool
+    ensures { result ≡ list_all (λ e. leb (slice_index e 4) 32) entries.now }
+{
+    entries.iter().all(|entry| entry[4] <= 32)
 }
 
 // The rank of an entry for an address: its prefix length plus one where it holds the address, else 0.
-fn rank(list: &[u8], k: usize, address: u32) -> u8
-    requires { 5 * k + 5 ≤ length list.now }
-    ensures { result ≡ rank_at list.now address k }
+fn rank(entry: &[u8; 5], address: u32) -> u8
+    ensures { result ≡ rank_at entry.now address 0 }
 {
-    let i = 5 * k;
-    let prefix = list[i + 4];
+    let [first, second, third, fourth, prefix] = *entry;
     if 32 < prefix {
         return 0;
     }
-    let net = words::of_four(list[i], list[i + 1], list[i + 2], list[i + 3]);
+    let net = words::of_four(first, second, third, fourth);
     let beyond = 32 - prefix;
-    if (address as u64) >> beyond == (net as u64) >> beyond {
+    if u64::from(address) >> beyond == u64::from(net) >> beyond {
         prefix + 1
     } else {
         0
     }
 }
 
-// The entry of a list that holds an address with the longest prefix, the first such: its number, from 1, and its rank; both 0 where none does.
-fn best_in(list: &[u8], address: u32) -> Best
-    ensures { result ≡ best_in list.now address }
-{
-    let entries = list.len() / 5;
-    let mut number = 0;
-    let mut top = 0;
-    for k in 0..entries {
-        let found = rank(list, k, address);
-        if top < found {
-            top = found;
-            number = k + 1;
+impl Best {
+    // The better of what was kept and an entry of this number and rank: the entry where it ranks above.
+    fn or(self, number: usize, rank: u8) -> Best
+        ensures { result ≡ better self number rank }
+    {
+        if self.rank < rank {
+            Best { number, rank }
+        } else {
+            self
         }
     }
-    Best { number, rank: top }
 }
 
-// What a list has for each of two addresses, as `best_in` tells it, in one pass over the list.
-fn best_of_two(list: &[u8], first: u32, second: u32) -> BestOfTwo
-    ensures { result ≡ best_of_two list.now first second }
+// Of each address, the better of what was kept and this entry.
+fn keep_better<const N: usize>(
+    best: &mut [Best; N],
+    number: usize,
+    entry: &[u8; 5],
+    addresses: &[u32; N],
+)
+    ensures { (i : ℕ) (d : Best) → i < N → slice_index_or best.new i d
+        ≡ better (slice_index_or best.old i d) number (rank_at entry.now (slice_index addresses.now i) 0) }
 {
-    let entries = list.len() / 5;
-    let mut first_number = 0;
-    let mut first_top = 0;
-    let mut second_number = 0;
-    let mut second_top = 0;
-    for k in 0..entries {
-        let first_found = rank(list, k, first);
-        if first_top < first_found {
-            first_top = first_found;
-            first_number = k + 1;
-        }
-        let second_found = rank(list, k, second);
-        if second_top < second_found {
-            second_top = second_found;
-            second_number = k + 1;
-        }
+    for (i, kept) in best.iter_mut().enumerate() {
+        *kept = kept.or(number, rank(entry, addresses[i]));
     }
-    BestOfTwo {
-        first: Best {
-            number: first_number,
-            rank: first_top,
-        },
-        second: Best {
-            number: second_number,
-            rank: second_top,
-        },
+}
+
+// The entry of a list that holds an address with the longest prefix, the first such, for each of some addresses, in one pass over the list.
+fn best_in<const N: usize>(list: &[u8], addresses: &[u32; N]) -> [Best; N]
+    ensures { (i : ℕ) (d : Best) → i < N → slice_index_or result i d ≡ best_in list.now (slice_index addresses.now i) }
+{
+    let mut best = [Best { number: 0, rank: 0 }; N];
+    let (entries, _) = list.as_chunks();
+    for (k, entry) in entries.iter().enumerate() {
+        keep_better(&mut best, k + 1, entry, addresses);
     }
+    best
 }
 
 // The side of an address, by what each list has for it.
@@ -166,8 +151,8 @@ pub fn winner<'a>(cell: &'a [u8], plant: &'a [u8], address: u32) -> &'a [u8]
     ensures bytes { result.now ≡ winner_of cell.now plant.now address }
     ensures place { result.ref_ptr ≡ winner_at cell.entry plant.entry address }
 {
-    let of_cell = best_in(cell, address);
-    let of_plant = best_in(plant, address);
+    let [of_cell] = best_in(cell, &[address]);
+    let [of_plant] = best_in(plant, &[address]);
     match side_by(of_cell, of_plant) {
         Side::Cell => part(cell, of_cell.number),
         Side::Plant => part(plant, of_plant.number),
@@ -179,8 +164,8 @@ pub fn winner<'a>(cell: &'a [u8], plant: &'a [u8], address: u32) -> &'a [u8]
 pub fn winning_entry(cell: &[u8], plant: &[u8], address: u32) -> Winning
     ensures { result ≡ winning_of cell.now plant.now address }
 {
-    let by_cell = best_in(cell, address);
-    let by_plant = best_in(plant, address);
+    let [by_cell] = best_in(cell, &[address]);
+    let [by_plant] = best_in(plant, &[address]);
     let side = side_by(by_cell, by_plant);
     match side {
         Side::Cell => Winning {
@@ -199,10 +184,7 @@ pub fn winning_entry(cell: &[u8], plant: &[u8], address: u32) -> Winning
 fn prefix_in(part: &[u8]) -> u8
     ensures { result ≡ get_or part.now 4 0 }
 {
-    if part.len() < 5 {
-        return 0;
-    }
-    part[4]
+    part.get(4).copied().unwrap_or(0)
 }
 
 // An entry by value: the number that it has in its list, and the address and the prefix length in its part. An empty part has 0 for both.
@@ -220,18 +202,10 @@ pub fn entry_in(number: usize, part: &[u8]) -> Entry
 fn direction_of(source: Side, destination: Side) -> Direction
     ensures { result ≡ direction_of source destination }
 {
-    match source {
-        Side::Cell => match destination {
-            Side::Plant => Direction::FromCell,
-            Side::Cell => Direction::NotOurs,
-            Side::Neither => Direction::NotOurs,
-        },
-        Side::Plant => match destination {
-            Side::Cell => Direction::FromPlant,
-            Side::Plant => Direction::NotOurs,
-            Side::Neither => Direction::NotOurs,
-        },
-        Side::Neither => Direction::NotOurs,
+    match (source, destination) {
+        (Side::Cell, Side::Plant) => Direction::FromCell,
+        (Side::Plant, Side::Cell) => Direction::FromPlant,
+        _ => Direction::NotOurs,
     }
 }
 
@@ -239,9 +213,8 @@ fn direction_of(source: Side, destination: Side) -> Direction
 pub fn direction_between(cell: &[u8], plant: &[u8], source: u32, destination: u32) -> Direction
     ensures { result ≡ direction_between cell.now plant.now source destination }
 {
-    let in_cell = best_of_two(cell, source, destination);
-    let in_plant = best_of_two(plant, source, destination);
-    let from = side_by(in_cell.first, in_plant.first);
-    let to = side_by(in_cell.second, in_plant.second);
-    direction_of(from, to)
+    let ends = [source, destination];
+    let [from_cell, to_cell] = best_in(cell, &ends);
+    let [from_plant, to_plant] = best_in(plant, &ends);
+    direction_of(side_by(from_cell, from_plant), side_by(to_cell, to_plant))
 }

@@ -1,32 +1,21 @@
--- `sides::bad_list` meets its contract. The loop's invariant: no prefix length passed is over 32.
+-- `sides::bad_list` meets its contract: where the list has neither bytes left over nor too many entries, each of them is tested.
 -- Assumes nothing.
-use mathlib.Core.Path.{◌≡◌}
-use Prim.Native.Nat.{◌/◌}
-use native.Mathlib.Omega.{arith}
-use lib.ListN.{length}
-use borrow.Author.Rules.{rules}
-use borrow.Author.Tests.{le-leb, lt-leb}
-use Rattle.laws.proofs.Search.{every_none, every_more, every_not}
-use Rattle.sides.specs.Lists.{bad_list}
+use Rattle.std.proofs.Common.{◌≡◌, ℕ, ◌%◌, ◌≤◌, Bool, not, List, leb, length, sym, refl, ◌∙◌, rules, arith}
+use Rattle.std.proofs.lemmas.Bool.Decides.{nat_tests}
+use borrow.Author.Tests.{le-ltb}
+use Rattle.laws.specs.Search.{every}
+use Rattle.sides.specs.Lists.{entries, prefix_at, bad_list}
+use Rattle.sides.proofs.Chunks.{all_entries}
 use Rattle.sides.proofs.bad_list.Goals as goal
 
-pub returns-then-list-entries : goal.returns-then-list-entries
+by_entries : (l : List ℕ) (short : Bool) → length l % 5 ≡ 0 → entries l ≤ 64 → short ≡ every (entries l) (λ k. leb (prefix_at l k) 32)
+    → not short ≡ bad_list l
 unfolding bad_list
-returns-then-list-entries c = rw c.if-list-entries.true
+by_entries l short none few e = rw (none, le-ltb 64 (entries l) few, e) refl
 
-pub loop-k-init : goal.loop-k-init
-loop-k-init c = (search rules, every_none _)
-
-pub returns-then-list-k-gt32 : goal.returns-then-list-k-gt32
-unfolding bad_list
-returns-then-list-k-gt32 c =
-    rw (c.if-list-entries.false, every_not _ _ _ c.loop-k-test.true (lt-leb _ _ c.if-list-k-gt32.true))
-
-pub loop-k-preserved : goal.loop-k-preserved
-loop-k-preserved c = (search rules, every_more _ _ c.loop-k.invariant.1 (le-leb _ _ c.if-list-k-gt32.false))
-
-pub returns : goal.returns
-unfolding bad_list
-returns c =
-    let e : c.loop-k.k ≡ length c.args.list.now / 5 = omega arith in
-    rw (c.if-list-entries.false, rw e at c.loop-k.invariant.1)
+pub returns-else-too_many : goal.returns-else-too_many
+returns-else-too_many c =
+    let empty = sym c.is_empty.ensures ∙ c.if-too_many.false.0 in
+    let none : length c.as_chunks.result.1.now ≡ 0 = grind (arith, nat_tests) in
+    by_entries c.args.list.now c.all_short.result (sym c.as_chunks.ensures.back_len ∙ none) (search rules)
+    (c.all_short.ensures ∙ rw c.as_chunks.ensures.front (all_entries c.args.list.now))
