@@ -13,6 +13,7 @@ use Rattle.std.proofs.lemmas.Option.{none-some}
 use Rattle.refused.specs.declared.Refusal.TheVariants as refusal
 use Rattle.refused.specs.Refused.{refusal_of}
 use Rattle.refused.proofs.Told.{told}
+use Rattle.packet.specs.Kinds.{tcp, udp}
 use Rattle.packet.specs.Header.{header_length, usable, later, protocol, needed, wrong, header_refusal, header_of, read_of}
 
 module _ (b : List ℕ) where
@@ -66,10 +67,14 @@ sound b e = first (which (length b) 20)
     first (above h) = tested h (wrong b) refl
 
 -- so what a protocol needs is there after the IP header, of a packet that is no later fragment
-pub there : (b : List ℕ) (p n : ℕ) → header_refusal b ≡ None → later b ≡ false → protocol b ≡ p → needed p false ≡ n → header_length b + n ≤ length b
-there b p n e l q is =
-    let same : needed (protocol b) (later b) ≡ n = rw (l, q) is in
-    omega (arith, (sound b e).enough)
+module _ (b : List ℕ) (e : header_refusal b ≡ None) (first : later b ≡ false) where
+  pub tcp_there : protocol b ≡ tcp → header_length b + 20 ≤ length b
+  unfolding needed
+  tcp_there q = let same : needed (protocol b) (later b) ≡ 20 = rw (first, q) in omega (arith, (sound b e).enough)
+
+  pub udp_there : protocol b ≡ udp → header_length b + 8 ≤ length b
+  unfolding needed
+  udp_there q = let same : needed (protocol b) (later b) ≡ 8 = rw (first, q) in omega (arith, (sound b e).enough)
 
 -- the refusal that an answer tells is that of the tests
 pub number_told : (b : List ℕ) → refusal_of (read_of b) ≡ header_refusal b

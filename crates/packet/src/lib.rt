@@ -11,6 +11,10 @@ pub mod kinds;
 use kinds::Kind;
 use refused::Refusal;
 
+const TCP: u8 = 6;
+
+const UDP: u8 = 17;
+
 // What follows the IP header: the ports of TCP and UDP, and the kind. A later fragment and any other protocol have ports 0.
 #[derive(Clone, Copy)]
 pub struct Transport {
@@ -37,6 +41,7 @@ fn header_length(first: u8) -> usize
 }
 
 // Whether a packet is a later fragment: its offset, the low 13 bits of two bytes, is above 0.
+#[tactic(auto, using(words::proofs::Words::there))]
 fn is_later(bytes: &[u8]) -> bool
     requires { 20 ≤ length bytes.now }
     ensures { result ≡ later bytes.now }
@@ -45,15 +50,13 @@ fn is_later(bytes: &[u8]) -> bool
 }
 
 // How many bytes a packet must have after its IP header.
+#[tactic(auto, unfolding(crate::specs::Header::needed))]
 fn needed_after(protocol: u8, later: bool) -> usize
     ensures { (result ≡ needed protocol later) × (result ≤ 20) }
 {
-    if later {
-        return 0;
-    }
-    match protocol {
-        6 => 20,
-        17 => 8,
+    match (later, protocol) {
+        (false, TCP) => 20,
+        (false, UDP) => 8,
         _ => 0,
     }
 }
@@ -93,6 +96,7 @@ fn portless() -> Transport
 }
 
 // Two ports, which stand first after the IP header, and a kind.
+#[tactic(auto, using(words::proofs::Words::there))]
 fn with_ports(bytes: &[u8], start: usize, kind: Kind) -> Transport
     requires { (start ≤ 60) × (start + 4 ≤ length bytes.now) }
     ensures { result ≡ with_ports bytes.now start kind }
@@ -105,23 +109,21 @@ fn with_ports(bytes: &[u8], start: usize, kind: Kind) -> Transport
 }
 
 // What follows the IP header of a packet that is not refused.
+#[tactic(auto, using(crate::proofs::Order::tcp_there, crate::proofs::Order::udp_there), unfolding(crate::specs::Kinds::kind_of, crate::specs::Header::transport_of))]
 fn transport_of(bytes: &[u8]) -> Transport
     requires { (20 ≤ length bytes.now) × (header_refusal bytes.now ≡ None) }
     ensures { result ≡ transport_of bytes.now }
 {
     let start = header_length(bytes[0]);
-    let protocol = bytes[9];
-    if is_later(bytes) {
-        return portless();
-    }
-    match protocol {
-        6 => with_ports(bytes, start, kinds::of_flags(bytes[start + 13])),
-        17 => with_ports(bytes, start, Kind::Udp),
+    match (is_later(bytes), bytes[9]) {
+        (false, TCP) => with_ports(bytes, start, kinds::of_flags(bytes[start + 13])),
+        (false, UDP) => with_ports(bytes, start, Kind::Udp),
         _ => portless(),
     }
 }
 
 // The headers of a packet that is not refused.
+#[tactic(auto, using(words::proofs::Words::there), unfolding(crate::specs::Header::header_of))]
 fn header_of(bytes: &[u8]) -> Header
     requires { (20 ≤ length bytes.now) × (header_refusal bytes.now ≡ None) }
     ensures { result ≡ header_of bytes.now }
@@ -149,15 +151,10 @@ impl Header {
     pub fn port(self, from_plant: bool) -> u16
         ensures { result ≡ port_of self from_plant }
     {
-        if self.later {
-            return 0;
+        match (self.later, self.protocol, from_plant) {
+            (false, TCP, true) => self.transport.source_port,
+            (false, TCP, false) => self.transport.destination_port,
+            _ => 0,
         }
-        if self.protocol != 6 {
-            return 0;
-        }
-        if from_plant {
-            return self.transport.source_port;
-        }
-        self.transport.destination_port
     }
 }

@@ -7,7 +7,6 @@ use Rattle.counts.specs.Counts.{is_blocked, lowered_by, raised_by}
 use Rattle.verdicts.specs.declared.Verdict.{Verdict}
 use Rattle.verdicts.specs.declared.Verdict.TheVariants.{Uncounted, CreditOfOne, CreditOfTwo, FreshContact, Hygiene, Blocked}
 use Rattle.rulings.specs.declared.Ruling.{Ruling}
-use Rattle.rulings.specs.declared.Counted.{Counted}
 use Rattle.rulings.specs.Rules.{Rules}
 use Rattle.verdicts.specs.Verdicts.{verdict_of, record_after}
 
@@ -23,6 +22,10 @@ count_written floor point weight attempted Hygiene count = None
 count_written floor point weight attempted Blocked count = attempted
 
 -- whether a count is written, and the one that the address then has
+pub record Counted : Type 0 where
+  pub writes : Bool
+  pub count : ℤ
+
 abbrev pub counted_by : ℤ → Option ℤ → Counted
 counted_by count None = record { writes = false; count = count }
 counted_by count (Some new) = record { writes = true; count = new }

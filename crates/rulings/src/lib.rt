@@ -1,10 +1,9 @@
 // All that a packet of ours gets: its verdict, and what follows for its record and its cell address's count. Nothing here touches a table.
 #![tactic(auto)]
 
-ghost use Rattle.std.specs.Prelude.{None};
-ghost use Rattle.std.specs.Prelude.{◌≡◌};
+ghost use Rattle.std.specs.Prelude.{None, ◌≡◌};
 ghost use Rattle.rulings.specs.Rules.{rules_of};
-ghost use Rattle.rulings.specs.Rulings.{count_written, counted_by, ruling_of};
+ghost use Rattle.rulings.specs.Rulings.{count_written, ruling_of};
 
 pub mod answers;
 
@@ -13,6 +12,7 @@ use settings::Limits;
 use verdicts::Verdict;
 
 // A verdict, and what follows from it: the packet's record, whether the cell address's entry is written, and its count.
+// Kept: the count is the answer's, written or not, so that it stands beside the flag; with an Option it would be looked up twice.
 #[derive(Clone, Copy)]
 pub struct Ruling {
     pub verdict: Verdict,
@@ -21,42 +21,16 @@ pub struct Ruling {
     pub count: i16,
 }
 
-// The count after a verdict, and whether it is written.
-#[derive(Clone, Copy)]
-struct Counted {
-    writes: bool,
-    count: i16,
-}
-
-// What a verdict makes of a count.
-fn count_after(verdict: Verdict, count: i16, floor: i16) -> Counted
-    ensures { result ≡ counted_by count (count_written floor 1 1 None verdict count) }
+// The count that a verdict writes over this one, if it writes.
+#[tactic(auto, unfolding(crate::specs::Rulings::count_written))]
+fn count_after(verdict: Verdict, count: i16, floor: i16) -> Option<i16>
+    ensures { result ≡ count_written floor 1 1 None verdict count }
 {
     match verdict {
-        Verdict::Uncounted => Counted {
-            writes: false,
-            count,
-        },
-        Verdict::CreditOfOne => Counted {
-            writes: true,
-            count: counts::lowered(count, 1, floor),
-        },
-        Verdict::CreditOfTwo => Counted {
-            writes: true,
-            count: counts::lowered(count, 2, floor),
-        },
-        Verdict::FreshContact => Counted {
-            writes: true,
-            count: counts::raised(count, 1, 32767),
-        },
-        Verdict::Hygiene => Counted {
-            writes: false,
-            count,
-        },
-        Verdict::Blocked => Counted {
-            writes: false,
-            count,
-        },
+        Verdict::CreditOfOne => Some(counts::lowered(count, 1, floor)),
+        Verdict::CreditOfTwo => Some(counts::lowered(count, 2, floor)),
+        Verdict::FreshContact => Some(counts::raised(count, 1, 32767)),
+        Verdict::Uncounted | Verdict::Hygiene | Verdict::Blocked => None,
     }
 }
 
@@ -65,8 +39,7 @@ fn count_after(verdict: Verdict, count: i16, floor: i16) -> Counted
 pub fn ruling_of(limits: Limits, header: Header, from_plant: bool, byte: u8, count: i16) -> Ruling
     ensures { result ≡ ruling_of (rules_of limits) header from_plant byte count }
 {
-    let transport = header.transport;
-    let kind = transport.kind;
+    let kind = header.transport.kind;
     let blocked = counts::is_blocked(count, limits.threshold);
     let verdict = verdicts::verdict_of(from_plant, blocked, records::marks_of(byte), kind);
     let after = count_after(verdict, count, limits.floor);
@@ -74,7 +47,7 @@ pub fn ruling_of(limits: Limits, header: Header, from_plant: bool, byte: u8, cou
     Ruling {
         verdict,
         byte: renewed,
-        writes: after.writes,
-        count: after.count,
+        writes: after.is_some(),
+        count: after.unwrap_or(count),
     }
 }

@@ -8,7 +8,7 @@ use packet::kinds::Kind;
 use records::Marks;
 
 // The verdicts on a packet of ours, 1 to 6, by their words in document 01.
-#[derive(Clone, Copy)]
+#[derive(Clone, Copy, PartialEq, Eq)]
 pub enum Verdict {
     // Forwarded, nothing counted.
     Uncounted,
@@ -42,74 +42,38 @@ pub fn number(verdict: Verdict) -> u8
 pub fn is_dropped(verdict: Verdict) -> bool
     ensures { result ≡ not (is_forwarded verdict) }
 {
-    match verdict {
-        Verdict::Uncounted => false,
-        Verdict::CreditOfOne => false,
-        Verdict::CreditOfTwo => false,
-        Verdict::FreshContact => false,
-        Verdict::Hygiene => true,
-        Verdict::Blocked => true,
-    }
+    matches!(verdict, Verdict::Hygiene | Verdict::Blocked)
 }
 
 // Whether something is counted by a verdict: a credit, or a fresh contact.
 fn is_counted(verdict: Verdict) -> bool
     ensures { result ≡ is_counted verdict }
 {
-    match verdict {
-        Verdict::Uncounted => false,
-        Verdict::CreditOfOne => true,
-        Verdict::CreditOfTwo => true,
-        Verdict::FreshContact => true,
-        Verdict::Hygiene => false,
-        Verdict::Blocked => false,
-    }
-}
-
-// Whether a packet is a closing one.
-fn is_closing(kind: Kind) -> bool
-    ensures { result ≡ is_closing kind }
-{
-    match kind {
-        Kind::Udp => false,
-        Kind::Opening => false,
-        Kind::SynAck => false,
-        Kind::Closing => true,
-        Kind::Plain => false,
-    }
+    matches!(
+        verdict,
+        Verdict::CreditOfOne | Verdict::CreditOfTwo | Verdict::FreshContact
+    )
 }
 
 // Whether a packet is closing or SYN+ACK, which hygiene drops where the cell sends it on a record with neither mark.
 fn is_closing_or_syn_ack(kind: Kind) -> bool
     ensures { result ≡ (is_closing kind || is_syn_ack kind) }
 {
-    match kind {
-        Kind::Udp => false,
-        Kind::Opening => false,
-        Kind::SynAck => true,
-        Kind::Closing => true,
-        Kind::Plain => false,
-    }
+    matches!(kind, Kind::Closing | Kind::SynAck)
 }
 
 // Whether a packet is UDP or opening, which a blocked cell address gets through on no record.
 fn is_udp_or_opening(kind: Kind) -> bool
     ensures { result ≡ (is_udp kind || is_opening kind) }
 {
-    match kind {
-        Kind::Udp => true,
-        Kind::Opening => true,
-        Kind::SynAck => false,
-        Kind::Closing => false,
-        Kind::Plain => false,
-    }
+    matches!(kind, Kind::Udp | Kind::Opening)
 }
 
 // A packet on a record with only the other mark: closing earns nothing, and every other kind the credit.
 fn unless_closing(kind: Kind, credit: Verdict) -> Verdict
     ensures { result ≡ unless_closing kind credit }
 {
-    if is_closing(kind) {
+    if kind == Kind::Closing {
         Verdict::Uncounted
     } else {
         credit
@@ -117,6 +81,7 @@ fn unless_closing(kind: Kind, credit: Verdict) -> Verdict
 }
 
 // The verdict on a packet from the plant.
+#[tactic(auto, unfolding(crate::specs::Verdicts::from_the_plant))]
 fn from_the_plant(own: bool, other: bool, kind: Kind) -> Verdict
     ensures { result ≡ from_the_plant own other kind }
 {
@@ -130,6 +95,7 @@ fn from_the_plant(own: bool, other: bool, kind: Kind) -> Verdict
 }
 
 // The verdict on a packet from a cell address that is not blocked.
+#[tactic(auto, unfolding(crate::specs::Verdicts::from_the_cell))]
 fn from_the_cell(own: bool, other: bool, kind: Kind) -> Verdict
     ensures { result ≡ from_the_cell own other kind }
 {
@@ -146,6 +112,7 @@ fn from_the_cell(own: bool, other: bool, kind: Kind) -> Verdict
 }
 
 // The verdict on a packet from a cell address that is blocked.
+#[tactic(auto, unfolding(crate::specs::Verdicts::from_blocked_cell))]
 fn from_blocked_cell(own: bool, other: bool, kind: Kind) -> Verdict
     ensures { result ≡ from_blocked_cell own other kind }
 {
@@ -155,13 +122,14 @@ fn from_blocked_cell(own: bool, other: bool, kind: Kind) -> Verdict
     if is_udp_or_opening(kind) {
         return Verdict::Blocked;
     }
-    if own | is_closing(kind) {
+    if own | (kind == Kind::Closing) {
         return Verdict::Uncounted;
     }
     Verdict::CreditOfOne
 }
 
 // The verdict on a packet of ours, by its direction and kind, whether its cell address is blocked, and its record's marks.
+#[tactic(auto, unfolding(crate::specs::Verdicts::verdict_of))]
 pub fn verdict_of(from_plant: bool, blocked: bool, marks: Marks, kind: Kind) -> Verdict
     ensures { result ≡ verdict_of from_plant blocked marks kind }
 {
@@ -185,12 +153,13 @@ fn marks_after(from_plant: bool, marks: Marks, sets: bool) -> Marks
 }
 
 // The packet's record after its verdict. A dropped packet leaves it, age and all.
+#[tactic(auto, unfolding(crate::specs::Verdicts::record_after))]
 pub fn record_after(from_plant: bool, kind: Kind, verdict: Verdict, byte: u8) -> u8
     ensures { result ≡ record_after from_plant kind verdict byte }
 {
     let marks = records::marks_of(byte);
     let first = from_plant & !(marks.plant | marks.cell);
-    if is_dropped(verdict) | (first & is_closing(kind)) {
+    if is_dropped(verdict) | (first & (kind == Kind::Closing)) {
         return byte;
     }
     records::renewed(marks_after(from_plant, marks, is_counted(verdict) | first))
