@@ -12,13 +12,16 @@ use refused::Refusal;
 
 const MAGIC: u32 = 0xa1b2c3d4;
 
+// The header that is written, little-endian: the magic, version 2.4, zone 0, accuracy 0, snap length 2,048 and link type 1.
+const WRITTEN: [u8; 24] = [
+    0xd4, 0xc3, 0xb2, 0xa1, 2, 0, 4, 0, 0, 0, 0, 0, 0, 0, 0, 0, 0, 8, 0, 0, 1, 0, 0, 0,
+];
+
 const HEADER: usize = 24;
 
 const RECORD_HEADER: usize = 16;
 
 const MOST_CAPTURED: usize = 2048;
-
-const SNAP_LENGTH: u32 = 2048;
 
 // Where the next record starts among the bytes at hand, and the capture's byte order.
 #[repr(C)]
@@ -53,6 +56,7 @@ pub enum Reading {
 }
 
 // Whether a header that is not short has a wrong magic, version or link type.
+#[tactic(auto, using(words::proofs::Words::there))]
 fn bad_words(bytes: &[u8], big_endian: bool) -> bool
     requires { 24 ≤ length bytes.now }
     ensures { result ≡ bad_words big_endian bytes.now }
@@ -65,14 +69,12 @@ fn bad_words(bytes: &[u8], big_endian: bool) -> bool
 }
 
 // Reads a capture's header, and answers a cursor at the first record. It is refused by 7.
+#[tactic(auto, using(words::proofs::Words::there), unfolding(crate::specs::Capture::opened_of, crate::specs::Capture::bad_header))]
 pub fn open(bytes: &[u8]) -> Result<Cursor, Refusal>
     ensures { result ≡ opened_of bytes.now }
 {
-    if bytes.len() < HEADER {
-        return Err(Refusal::Capture);
-    }
     let big_endian = words::four_at(bytes, 0) == MAGIC;
-    if bad_words(bytes, big_endian) {
+    if bytes.len() < HEADER || bad_words(bytes, big_endian) {
         return Err(Refusal::Capture);
     }
     Ok(Cursor {
@@ -82,6 +84,7 @@ pub fn open(bytes: &[u8]) -> Result<Cursor, Refusal>
 }
 
 // What a record's header says, where it is all there.
+#[tactic(auto, using(words::proofs::Words::there))]
 fn head_at(bytes: &[u8], at: usize, big_endian: bool) -> Record
     requires { at + 16 ≤ length bytes.now }
     ensures { result ≡ head_at big_endian at bytes.now }
@@ -99,6 +102,7 @@ fn head_at(bytes: &[u8], at: usize, big_endian: bool) -> Record
 }
 
 // Reads the record that starts at the cursor, and answers it. A place past the bytes at hand is their end.
+#[tactic(auto, unfolding(crate::specs::Capture::next_of))]
 pub fn next(bytes: &[u8], cursor: Cursor) -> Reading
     ensures { result ≡ next_of bytes.now cursor }
 {
@@ -118,20 +122,6 @@ pub fn next(bytes: &[u8], cursor: Cursor) -> Reading
     Reading::Whole(record)
 }
 
-// Writes the words of a capture's header into room that is as long.
-fn fill_header(room: &mut [u8])
-    requires { length room.old ≡ 24 }
-    ensures { room.new ≡ stored (header_bytes false) 0 room.old }
-{
-    words::store_four(room, 0, MAGIC, false);
-    words::store_two(room, 4, 2, false);
-    words::store_two(room, 6, 4, false);
-    words::store_four(room, 8, 0, false);
-    words::store_four(room, 12, 0, false);
-    words::store_four(room, 16, SNAP_LENGTH, false);
-    words::store_four(room, 20, 1, false);
-}
-
 // Writes a record, its header and the captured bytes, into room that is as long.
 fn fill_record(room: &mut [u8], seconds: u32, microseconds: u32, original: u32, source: &[u8])
     requires { (length source.now ≤ 2048) × (length room.old ≡ 16 + length source.now) }
@@ -146,19 +136,20 @@ fn fill_record(room: &mut [u8], seconds: u32, microseconds: u32, original: u32, 
 }
 
 // Writes a capture's header into the room at a place, and answers the place of the first record. It is refused by 9 where there is no room.
+#[tactic(auto, unfolding(crate::specs::Writing::header_put, crate::specs::Writing::bytes_put))]
 pub fn put_header(room: &mut [u8], at: usize) -> Result<usize, Refusal>
     ensures { put_of result room.new ≡ header_put at room.old }
 {
     if words::has_room(room.len(), at, HEADER) {
-        let end = at + HEADER;
-        fill_header(&mut room[at..end]);
-        return Ok(end);
+        words::store(room, at, &WRITTEN);
+        return Ok(at + HEADER);
     }
     Err(Refusal::Room)
 }
 
 // Writes a record into the room at a place: its second and microsecond, its original length, and the bytes that were captured of it.
 // Answers the place of the next record. It is refused by 8 where they are more than 2,048, and then by 9 where there is no room.
+#[tactic(auto, using(crate::proofs::Writings::put_in_part), unfolding(crate::specs::Writing::record_put, crate::specs::Writing::bytes_put))]
 pub fn put_record(
     room: &mut [u8],
     at: usize,

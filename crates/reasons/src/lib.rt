@@ -51,15 +51,19 @@ fn passes(blocked: bool, marks: Marks, kind: Kind) -> bool
     !verdicts::is_dropped(verdicts::verdict_of(false, blocked, marks, kind))
 }
 
+const KINDS: [Kind; 5] = [
+    Kind::Udp,
+    Kind::Opening,
+    Kind::SynAck,
+    Kind::Closing,
+    Kind::Plain,
+];
+
 // Whether a packet of some kind is forwarded.
 fn passes_as_some_kind(blocked: bool, marks: Marks) -> bool
     ensures { result ≡ at_some (λ kind. is_forwarded (verdict_of false blocked marks kind)) kind_values }
 {
-    passes(blocked, marks, Kind::Udp)
-        | passes(blocked, marks, Kind::Opening)
-        | passes(blocked, marks, Kind::SynAck)
-        | passes(blocked, marks, Kind::Closing)
-        | passes(blocked, marks, Kind::Plain)
+    KINDS.iter().any(|kind| passes(blocked, marks, *kind))
 }
 
 // Which facts are reported of a packet from the cell with this count, these marks and this kind. Of all counts one below T lets the most

@@ -38,11 +38,14 @@ pub fn number(verdict: Verdict) -> u8
     }
 }
 
-// Whether a verdict drops the packet.
+// Whether a verdict drops the packet: all but the first four do, which is one comparison.
 pub fn is_dropped(verdict: Verdict) -> bool
     ensures { result ≡ not (is_forwarded verdict) }
 {
-    matches!(verdict, Verdict::Hygiene | Verdict::Blocked)
+    !matches!(
+        verdict,
+        Verdict::Uncounted | Verdict::CreditOfOne | Verdict::CreditOfTwo | Verdict::FreshContact
+    )
 }
 
 // Whether something is counted by a verdict: a credit, or a fresh contact.

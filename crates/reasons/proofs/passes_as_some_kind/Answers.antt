@@ -1,12 +1,13 @@
 -- `reasons::passes_as_some_kind` meets its contract: each kind is tried.
 -- Assumes nothing.
-use mathlib.Core.Bool.{false}
+use Rattle.std.proofs.Common.{false, rules, tests}
+use Rattle.std.proofs.lemmas.Iterator.{YieldsList-from_slice}
+use Rattle.std.proofs.lemmas.Iterator.Search.{any_from_yields_List}
 use Rattle.verdicts.specs.Verdicts.{is_forwarded, verdict_of}
-use Rattle.reasons.proofs.Reasons.{kinds_tried}
+use Rattle.reasons.specs.Reasons.{kind_values}
 use Rattle.reasons.proofs.passes_as_some_kind.Goals as goal
 
 pub returns : goal.returns
 returns c =
-    kinds_tried (λ kind. is_forwarded (verdict_of false c.args.blocked c.args.marks kind))
-    c.passes.ensures c.passes-2.ensures c.passes-3.ensures
-    c.passes-4.ensures c.passes-5.ensures
+    any_from_yields_List (λ kind. is_forwarded (verdict_of false c.args.blocked c.args.marks kind)) _ _ _ c.any.ensures.ran
+    (YieldsList-from_slice kind_values cc) (λ x b q k. search (rules, tests))
