@@ -5,7 +5,7 @@
 ghost use Rattle.std.specs.Prelude.{◌≡◌, ◌+◌, ◌≤◌, length, false};
 ghost use Rattle.capture.specs.Capture.{bad_words, opened_of, head_at, next_of};
 ghost use Rattle.words.specs.Words.{stored};
-ghost use Rattle.capture.specs.Format.{header_bytes, content_of, record_bytes};
+ghost use Rattle.capture.specs.Format.{content_of, record_bytes};
 ghost use Rattle.capture.specs.Writing.{put_of, header_put, record_put};
 
 use refused::Refusal;
