@@ -13,8 +13,8 @@ pub enum Kind {
 }
 
 // The kind of a TCP packet. FIN, SYN, RST and ACK make a number; the other four flags are left out. SYN without ACK opens, whatever stands
-// beside it: several stacks take it so. It has two arms, without FIN and with it, since the compiler tests keys that lie side by side in one
-// arm range by range.
+// beside it: several stacks take it so.
+// Kept: opening has two arms, without FIN and with it, since the compiler tests keys that lie side by side in one arm range by range.
 #[tactic(auto, unfolding(crate::specs::Kinds::tcp_kind))]
 pub fn of_flags(flags: u8) -> Kind
     ensures { result ≡ tcp_kind (flag_number flags) }

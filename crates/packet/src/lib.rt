@@ -62,6 +62,7 @@ fn needed_after(protocol: u8, later: bool) -> usize
 }
 
 // The header tests in their order: a packet is refused by 5 or 6.
+#[tactic(auto, using(words::proofs::Words::there), unfolding(crate::specs::Header::header_refusal))]
 fn test(bytes: &[u8]) -> Result<(), Refusal>
     ensures { result ≡ answer_unless (header_refusal bytes.now) tt }
 {
