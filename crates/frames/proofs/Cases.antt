@@ -1,21 +1,15 @@
 -- What becomes of a frame, case by case.
 -- Assumes nothing.
 use mathlib.Core.Bool.{Bool, true, false, cond}
-use mathlib.Core.Path.{◌≡◌, refl, ap, subst}
+use mathlib.Core.Path.{◌≡◌, refl, subst}
 use mathlib.Core.List.{List}
-use Prim.Native.Nat.{ℕ, ◌-◌, ◌≤◌, ◌<◌}
+use Prim.Native.Nat.{ℕ, ◌≤◌, ◌<◌}
 use lib.Dec.{eqb, ltb}
-use lib.ListN.{length, take, drop, length-drop}
-use lib.Seq.{take_all}
-use native.Mathlib.Omega.{arith}
+use lib.ListN.{length}
 use borrow.Author.Tests.{lt-ltb, le-ltb, ltb-false, eq-eqb, ne_eqb}
-use Rattle.settings.specs.declared.Limits.{Limits}
-use Rattle.rulings.specs.Rules.{Rules}
-use Rattle.gateway.specs.Calls.{State, judged}
-use Rattle.gateway.specs.Why.{why_of}
 use Rattle.frames.specs.declared.Inside.{Inside}
 use Rattle.frames.specs.declared.Inside.TheVariants.{Short, Packet, Other}
-use Rattle.frames.specs.Frames.{ether_type, carried, inside_of, by_inside, frame_judged, why_inside, frame_explained}
+use Rattle.frames.specs.Frames.{ether_type, inside_of}
 
 is_short : Inside → Type 0
 is_short Short = Unit {0}
@@ -47,16 +41,3 @@ module _ (frame : List ℕ) where
       go : (t : Bool) → ltb (length frame) 14 ≡ t → cond t Short (cond (eqb (ether_type frame) 0x0800) Packet Other) ≡ Packet → 14 ≤ length frame
       go true q e = absurd (short_is_none e)
       go false q e = ltb-false _ _ q
-
-  module _ (rules : Rules) (limits : Limits) (cell plant : List ℕ) (time : ℕ) (before : State) where
-    pub by_inside_lem : {i : Inside} → i ≡ inside_of frame → by_inside i before (judged rules limits cell plant time (carried frame) before) ≡ frame_judged rules limits cell plant time frame before
-    unfolding frame_judged
-    by_inside_lem e = ap (λ (j : Inside). by_inside j before (judged rules limits cell plant time (carried frame) before)) e
-
-    pub why_inside_lem : {i : Inside} → i ≡ inside_of frame → why_inside i (why_of rules limits cell plant time (carried frame) before) ≡ frame_explained rules limits cell plant time frame before
-    unfolding frame_explained
-    why_inside_lem e = ap (λ (j : Inside). why_inside j (why_of rules limits cell plant time (carried frame) before)) e
-
--- all the bytes from a place on
-pub all_from : (at : ℕ) (l : List ℕ) → take (length l - at) (drop at l) ≡ drop at l
-all_from at l = take_all (length l - at) (drop at l) (omega (arith, length-drop at l))

@@ -4,13 +4,13 @@
 
 ghost use Rattle.std.specs.Prelude.{◌≡◌};
 ghost use Rattle.rulings.specs.Rules.{rules_of};
-ghost use Rattle.gateway.specs.Calls.{state_of, lent, left};
+ghost use Rattle.gateway.specs.Calls.{SameMemory, state_in, seen_in, after_call};
 ghost use Rattle.frames.specs.Frames.{inside_of, frame_judged, frame_explained};
 
-use places::Placing;
+use gateway::{Gateway, Site, View};
 use reasons::Explanation;
+use refused::Refusal;
 use rulings::answers::Answer;
-use settings::Limits;
 
 // What a frame holds: too few bytes for its own header, an IPv4 packet behind it, or something else.
 #[derive(Clone, Copy)]
@@ -33,61 +33,44 @@ pub fn what_is_in(frame: &[u8]) -> Inside
     Inside::Other
 }
 
-// Judges the packet of a frame that comes at a time. Answers refusal 5 for a frame that is too short, verdict 0 for one that carries
-// something else than IPv4, and else what the gateway answers.
+// Judges the packet of a frame that comes at a time. A frame that is too short is refused by 5, and one that carries something else than IPv4
+// gets verdict 0.
+#[tactic(auto, using(crate::proofs::Cases::has_header), unfolding(crate::specs::Frames::frame_judged))]
 pub fn judge(
-    placing: Placing,
-    cell: &[u8],
-    plant: &[u8],
-    records: &mut [u8],
-    tags: &mut [u32],
-    counts: &mut [i16],
-    clock: &mut u32,
-    limits: Limits,
+    gateway: &mut Gateway<'_>,
+    site: Site<'_>,
     time: u32,
     frame: &[u8],
-) -> Answer
-    ensures { left placing records tags counts clock result
-        ≡ frame_judged (rules_of limits) limits cell.now plant.now time frame.now
-        (lent placing records tags counts clock) }
+) -> Result<Answer, Refusal>
+    ensures same_memory { SameMemory gateway.old gateway.new }
+    ensures state { after_call result (state_in gateway.new)
+        ≡ frame_judged (rules_of site.entry.limits) site.entry.limits site.entry.cell.now site.entry.plant.now time frame.now
+        (state_in gateway.old) }
 {
     match what_is_in(frame) {
-        Inside::Short => Answer::Refused(5),
+        Inside::Short => Err(Refusal::Short),
         Inside::Packet => {
             let packet = &frame[14..];
-            gateway::judge(
-                placing, cell, plant, records, tags, counts, clock, limits, time, packet,
-            )
+            gateway.judge(site, time, packet)
         }
-        Inside::Other => Answer::NotOurs,
+        Inside::Other => Ok(Answer::NotOurs),
     }
 }
 
-// Why the packet of a frame that comes at a time is dropped. Answers refusal 5 for a frame that is too short, that it is not ours for one that
-// carries something else than IPv4, and else what the gateway answers.
-pub fn why<'a>(
-    placing: Placing,
-    cell: &'a [u8],
-    plant: &'a [u8],
-    records: &[u8],
-    tags: &[u32],
-    counts: &[i16],
-    clock: &u32,
-    limits: Limits,
-    time: u32,
-    frame: &[u8],
-) -> Explanation
-    ensures { result ≡ frame_explained (rules_of limits) limits cell.now plant.now time frame.now
-        (state_of placing records.now tags.now counts.now clock.now) }
+// Why the packet of a frame that comes at a time is dropped. A frame that is too short is refused by 5, and one that carries something else than
+// IPv4 is not ours.
+#[tactic(auto, using(crate::proofs::Cases::has_header), unfolding(crate::specs::Frames::frame_explained))]
+pub fn why(view: View<'_>, site: Site<'_>, time: u32, frame: &[u8]) -> Result<Explanation, Refusal>
+    ensures { result
+        ≡ frame_explained (rules_of site.entry.limits) site.entry.limits site.entry.cell.now site.entry.plant.now time frame.now
+        (seen_in view.entry) }
 {
     match what_is_in(frame) {
-        Inside::Short => Explanation::Refused(5),
+        Inside::Short => Err(Refusal::Short),
         Inside::Packet => {
             let packet = &frame[14..];
-            gateway::why(
-                placing, cell, plant, records, tags, counts, clock, limits, time, packet,
-            )
+            view.why(site, time, packet)
         }
-        Inside::Other => Explanation::NotOurs,
+        Inside::Other => Ok(Explanation::NotOurs),
     }
 }
