@@ -1,7 +1,9 @@
 -- Document 01, "The printing program": how its gateway is set up, and what becomes of a capture's records; and document 02, K4: what is
 -- answered where it is asked why.
 -- Assumes nothing.
-use Rattle.std.specs.Prelude.{Bool, cond, List, [], ◌∷◌, ℕ}
+use Rattle.std.specs.Prelude.{Bool, cond, List, [], ◌∷◌, ℕ, Option, Some, None, Result}
+use Rattle.refused.specs.declared.Refusal.{Refusal}
+use Rattle.refused.specs.Refused.{refusal_in}
 use Rattle.settings.specs.declared.Limits.{Limits}
 use Rattle.settings.specs.declared.Settings.{Settings}
 use Rattle.settings.specs.Settings.{factory_settings, with_threshold}
@@ -12,10 +14,8 @@ use Rattle.capture.specs.declared.Reading.{Reading}
 use Rattle.capture.specs.declared.Reading.TheVariants as reading
 use Rattle.capture.specs.Capture.{next_of}
 use Rattle.capture.specs.Whole.{bytes_of}
-use Rattle.reasons.specs.declared.Asked.{Asked}
-use Rattle.reasons.specs.declared.Asked.TheVariants.{Nothing, Why}
+use Rattle.reasons.specs.declared.Explanation.{Explanation}
 use Rattle.rulings.specs.declared.answers.Answer.{Answer}
-use Rattle.rulings.specs.Answers.{refusal_told}
 use Rattle.rulings.specs.Rules.{Rules, rules_of}
 use Rattle.gateway.specs.Calls.{State, After, cold_placing, started}
 use Rattle.frames.specs.Frames.{frame_judged, frame_explained}
@@ -50,16 +50,16 @@ unfoldable pub started_first : Bool → ℕ → State → State
 started_first first time before = cond first (started program_settings time before).state before
 
 -- a whole record's frame, judged at the record's second
-unfoldable pub record_judged : Bool → List ℕ → Record → State → After Answer
+unfoldable pub record_judged : Bool → List ℕ → Record → State → After (Result Answer Refusal)
 record_judged first bytes r before =
     frame_judged program_rules program_limits cell_list plant_list r.seconds (bytes_of bytes r) (started_first first r.seconds before)
 
 -- "The tool judges by the tables as they would stand at the packet's second": of a frame, where it is asked
-unfoldable pub asked_of : Bool → ℕ → List ℕ → State → Asked
-asked_of asks time frame before = cond asks (Why (frame_explained program_rules program_limits cell_list plant_list time frame before)) Nothing
+unfoldable pub asked_of : Bool → ℕ → List ℕ → State → Option (Result Explanation Refusal)
+asked_of asks time frame before = cond asks (Some (frame_explained program_rules program_limits cell_list plant_list time frame before)) None
 
 -- of a whole record, before it is judged
-abbrev pub record_asked : Bool → Bool → List ℕ → Record → State → Asked
+abbrev pub record_asked : Bool → Bool → List ℕ → Record → State → Option (Result Explanation Refusal)
 record_asked asks first bytes r before = asked_of asks r.seconds (bytes_of bytes r) (started_first first r.seconds before)
 
 -- what a whole record gets
@@ -89,4 +89,4 @@ abbrev pub step_refusal : Step → ℕ
 step_refusal End = 0
 step_refusal Cut = 8
 step_refusal Long = 8
-step_refusal (Judged r answer asked) = refusal_told answer
+step_refusal (Judged r answer asked) = refusal_in answer

@@ -2,12 +2,14 @@
 #![tactic(auto)]
 
 ghost use Rattle.std.specs.Prelude.{◌≡◌, ◌≤◌, length};
-ghost use Rattle.gateway.specs.Calls.{state_of, lent, left_state, left};
+ghost use Rattle.gateway.specs.Calls.{SameMemory, state_in, seen_in, after_call};
 ghost use Rattle.replay.specs.Replay.{program_settings, program_limits, program_placing, started_first, asked_of, judgement_of, stepped};
 
 use capture::{Cursor, Reading, Record};
+use gateway::{Gateway, Site, View};
 use places::Placing;
-use reasons::Asked;
+use reasons::Explanation;
+use refused::Refusal;
 use rulings::answers::Answer;
 use settings::{Limits, Settings};
 
@@ -27,16 +29,16 @@ pub enum Step {
     Long,
     Judged {
         read: Record,
-        answer: Answer,
-        asked: Asked,
+        answer: Result<Answer, Refusal>,
+        asked: Option<Result<Explanation, Refusal>>,
     },
 }
 
 // What a whole record gets: the gateway's answer, and its answer to the question why where that was asked.
 #[derive(Clone, Copy)]
 struct Judgement {
-    answer: Answer,
-    asked: Asked,
+    answer: Result<Answer, Refusal>,
+    asked: Option<Result<Explanation, Refusal>>,
 }
 
 // The settings of every program that replays a capture: the factory's but for T.
@@ -50,12 +52,11 @@ fn program_settings() -> Settings
 fn program_limits() -> Limits
     ensures { result ≡ program_limits }
 {
-    let set = program_settings();
-    set.limits
+    program_settings().limits
 }
 
-// What places packets in their tables: the one start is cold, and leaves the keys of the settings.
-fn program_placing() -> Placing
+// What places packets in their tables, which the one start, a cold one, leaves: the keys of the settings.
+pub fn program_placing() -> Placing
     ensures { result ≡ program_placing }
 {
     let set = program_settings();
@@ -64,114 +65,83 @@ fn program_placing() -> Placing
 }
 
 // Starts cold at the first record's second.
-fn start_first(
-    is_first: bool,
-    records: &mut [u8],
-    tags: &mut [u32],
-    counts: &mut [i16],
-    clock: &mut u32,
-    time: u32,
-)
-    ensures { left_state program_placing records tags counts clock
-        ≡ started_first is_first time (lent program_placing records tags counts clock) }
+#[tactic(auto, unfolding(crate::specs::Replay::started_first))]
+fn start_first(is_first: bool, gateway: &mut Gateway<'_>, time: u32)
+    ensures same_memory { SameMemory gateway.old gateway.new }
+    ensures state { state_in gateway.new ≡ started_first is_first time (state_in gateway.old) }
 {
     if is_first {
-        gateway::cold_start(program_settings(), records, tags, counts, clock, time);
+        let _ = gateway.start(program_settings(), time);
     }
 }
 
 // Asks why a frame is dropped, before it is judged, where that is wanted.
-fn ask(
-    asks: bool,
-    records: &[u8],
-    tags: &[u32],
-    counts: &[i16],
-    clock: &u32,
-    time: u32,
-    frame: &[u8],
-) -> Asked
-    ensures { result ≡ asked_of asks time frame.now (state_of program_placing records.now tags.now counts.now clock.now) }
+#[tactic(auto, unfolding(crate::specs::Replay::asked_of))]
+fn ask(asks: bool, view: View<'_>, time: u32, frame: &[u8]) -> Option<Result<Explanation, Refusal>>
+    ensures { result ≡ asked_of asks time frame.now (seen_in view.entry) }
 {
     if asks {
-        return Asked::Why(frames::why(
-            program_placing(),
-            &CELL,
-            &PLANT,
-            records,
-            tags,
-            counts,
-            clock,
-            program_limits(),
-            time,
-            frame,
-        ));
+        let site = Site {
+            limits: program_limits(),
+            cell: &CELL,
+            plant: &PLANT,
+        };
+        return Some(frames::why(view, site, time, frame));
     }
-    Asked::Nothing
+    None
 }
 
 // Judges a whole record's frame, after it was asked why where that is wanted.
+#[tactic(auto, unfolding(crate::specs::Replay::record_judged))]
 fn judge_record(
     asks: bool,
     bytes: &[u8],
     read: Record,
     is_first: bool,
-    records: &mut [u8],
-    tags: &mut [u32],
-    counts: &mut [i16],
-    clock: &mut u32,
+    gateway: &mut Gateway<'_>,
 ) -> Judgement
     requires { (read.from ≤ read.end) × (read.end ≤ length bytes.now) }
-    ensures { left program_placing records tags counts clock result
-        ≡ judgement_of asks is_first bytes.now read (lent program_placing records tags counts clock) }
+    ensures same_memory { SameMemory gateway.old gateway.new }
+    ensures state { after_call result (state_in gateway.new) ≡ judgement_of asks is_first bytes.now read (state_in gateway.old) }
 {
     let time = read.seconds;
     let from = read.from;
     let end = read.end;
-    start_first(is_first, records, tags, counts, clock, time);
+    start_first(is_first, gateway, time);
     let frame = &bytes[from..end];
-    let asked = ask(asks, records, tags, counts, clock, time, frame);
-    let answer = frames::judge(
-        program_placing(),
-        &CELL,
-        &PLANT,
-        records,
-        tags,
-        counts,
-        clock,
-        program_limits(),
-        time,
-        frame,
-    );
+    let asked = ask(asks, gateway.view(), time, frame);
+    let site = Site {
+        limits: program_limits(),
+        cell: &CELL,
+        plant: &PLANT,
+    };
+    let answer = frames::judge(gateway, site, time, frame);
     Judgement { answer, asked }
 }
 
 // Reads the record at the cursor and, where it is whole, judges it, after it was asked why where that is wanted; the first one starts the
 // gateway. Answers the record and what it got, or why there is none.
+#[tactic(auto, unfolding(crate::specs::Replay::stepped))]
 pub fn next(
     asks: bool,
     bytes: &[u8],
     cursor: Cursor,
     is_first: bool,
-    records: &mut [u8],
-    tags: &mut [u32],
-    counts: &mut [i16],
-    clock: &mut u32,
+    gateway: &mut Gateway<'_>,
 ) -> Step
-    ensures { left program_placing records tags counts clock result
-        ≡ stepped asks is_first bytes.now cursor (lent program_placing records tags counts clock) }
+    ensures same_memory { SameMemory gateway.old gateway.new }
+    ensures state { after_call result (state_in gateway.new) ≡ stepped asks is_first bytes.now cursor (state_in gateway.old) }
 {
     match capture::next(bytes, cursor) {
         Reading::End => Step::End,
         Reading::Cut => Step::Cut,
         Reading::Long => Step::Long,
         Reading::Whole(read) => {
-            let got = judge_record(asks, bytes, read, is_first, records, tags, counts, clock);
-            let answer = got.answer;
-            let asked = got.asked;
+            let got = judge_record(asks, bytes, read, is_first, gateway);
             Step::Judged {
                 read,
-                answer,
-                asked,
+                answer: got.answer,
+                asked: got.asked,
             }
         }
     }
