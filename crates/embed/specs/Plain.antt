@@ -1,6 +1,6 @@
 -- Answers as plain numbers, for programs in C and Rust. A number that an answer does not have is 0.
 -- Assumes nothing.
-use Rattle.std.specs.Prelude.{false, List, ℕ, zero, suc, ℤ, pos, Option, None}
+use Rattle.std.specs.Prelude.{false, List, ℕ, zero, suc, ℤ, pos, Option, Some, None}
 use Rattle.rulings.specs.declared.answers.Replacement.{Replacement}
 use Rattle.rulings.specs.declared.answers.Replacement.TheVariants.{None, Address}
 use Rattle.rulings.specs.declared.answers.Answer.{Answer}
@@ -61,8 +61,9 @@ side_number Neither = 0
 side_number Cell = 1
 side_number Plant = 2
 
-abbrev pub plain_winner : Winning → PlainWinner
-plain_winner winning = record { side = side_number winning.side; number = winning.number }
+abbrev pub plain_winner : Option Winning → PlainWinner
+plain_winner (Some winning) = record { side = side_number winning.side; number = winning.number }
+plain_winner None = record { side = 0; number = 0 }
 
 -- ---- captures
 abbrev pub plain_opening : Opened → PlainOpening

@@ -168,13 +168,15 @@ fn side_number(side: Side) -> u8
 }
 
 // The place of a winning entry in plain numbers: side 1 or 2 and the number there, or twice 0.
-pub fn of_winning(winning: Winning) -> PlainWinner
+pub fn of_winning(winning: Option<Winning>) -> PlainWinner
     ensures { result ≡ plain_winner winning }
 {
-    let side = winning.side;
-    PlainWinner {
-        side: side_number(side),
-        number: winning.number,
+    match winning {
+        Some(winning) => PlainWinner {
+            side: side_number(winning.side),
+            number: winning.number,
+        },
+        None => PlainWinner { side: 0, number: 0 },
     }
 }
 

@@ -2,7 +2,7 @@
 -- Assumes nothing.
 use mathlib.Core.Bool.{Bool, true, false, not, cond}
 use mathlib.Core.List.{List}
-use mathlib.Core.Path.{◌≡◌, refl, sym, ap, ◌∙◌}
+use mathlib.Core.Path.{◌≡◌, refl, sym, ap, subst, ◌∙◌}
 use Prim.Native.Nat.{ℕ}
 use lib.IntN.{ℤ}
 use lib.ListN.{length}
@@ -14,8 +14,9 @@ use Rattle.packet.specs.Header.{header_of}
 use Rattle.packet.specs.declared.kinds.Kind.{Kind}
 use Rattle.sides.specs.declared.Side.{Side}
 use Rattle.sides.specs.declared.Side.TheVariants.{Cell, Plant, Neither}
-use Rattle.sides.specs.Lists.{side_of, winner_of, winning_of, direction_of}
-use Rattle.sides.proofs.Winners.{StandsIn, in_cell, in_plant, same_side}
+use Rattle.sides.specs.Lists.{side_of, winner_of, winning_of, number_in, direction_of}
+use Rattle.sides.proofs.Winners.{StandsIn, in_cell, in_plant, same_side, stands_on}
+use Rattle.sides.proofs.Steps.{picked}
 use Rattle.sides.specs.declared.Direction.{Direction}
 use Rattle.sides.specs.declared.Direction.TheVariants.{FromCell, FromPlant, NotOurs}
 use Rattle.records.specs.declared.Marks.{Marks}
@@ -138,8 +139,8 @@ pub record TrueOf (limits : Limits) (cell plant : List ℕ) (drop : Drop) : Type
   pub reported : drop.reported ≡ reported_on drop.threshold (facts_in drop)
   pub one : one_of drop.reported ≡ true
   -- "the entries of the side lists that decided": one of the cell list on its source, and one of the plant list on its destination,
-  pub of_cell : winning_of cell plant drop.header.source ≡ record { side = Cell; number = drop.cell_entry.number }
-  pub of_plant : winning_of cell plant drop.header.destination ≡ record { side = Plant; number = drop.plant_entry.number }
+  pub of_cell : winning_of cell plant drop.header.source ≡ Some (record { side = Cell; number = drop.cell_entry.number })
+  pub of_plant : winning_of cell plant drop.header.destination ≡ Some (record { side = Plant; number = drop.plant_entry.number })
   -- each the five bytes that the lookup hands back
   pub cell_bytes : StandsIn (winner_of cell plant drop.header.source) drop.cell_entry
   pub plant_bytes : StandsIn (winner_of cell plant drop.header.destination) drop.plant_entry
@@ -190,10 +191,9 @@ sides_of Plant Neither e = true_is_not_false (ap is_from_cell e) refl
 sides_of Neither destination e = true_is_not_false (ap is_from_cell e) refl
 
 module _ (limits : Limits) (cell plant : List ℕ) where
-  stands_at : (address : ℕ) (side : Side) → side_of cell plant address ≡ side
-      → winning_of cell plant address ≡ record { side = side; number = (winning_of cell plant address).number }
-  stands_at address side e =
-      ap (λ (s : Side). record { side = s; number = (winning_of cell plant address).number }) (sym (same_side cell plant address) ∙ e)
+  stands_at : (address : ℕ) (side : Side) → side_of cell plant address ≡ side → (Neither ≡ side → ⊥)
+      → winning_of cell plant address ≡ Some (record { side = side; number = number_in (winning_of cell plant address) })
+  stands_at address side e some = stands_on (winning_of cell plant address) side (sym (same_side cell plant address) ∙ e) some
 
   -- a verdict alone, and one with what is told beside it
   verdict_alone : (verdict : Verdict) → is_forwarded verdict ≡ true → AllTrue limits cell plant (Ok (why.Forwarded verdict))
@@ -217,8 +217,8 @@ module _ (limits : Limits) (cell plant : List ℕ) where
         dropped = e;
         reported = refl;
         one = at_least_one limits.threshold (facts_of m.count (plant_seen m.byte) (cell_seen m.byte) h.transport.kind) e;
-        of_cell = stands_at h.source Cell ends.0;
-        of_plant = stands_at h.destination Plant ends.1;
+        of_cell = stands_at h.source Cell ends.0 (λ e. subst (picked ⊥ ⊥ (Unit {0})) e tt);
+        of_plant = stands_at h.destination Plant ends.1 (λ e. subst (picked ⊥ ⊥ (Unit {0})) e tt);
         cell_bytes = in_cell cell plant h.source ends.0;
         plant_bytes = in_plant cell plant h.destination ends.1;
       })

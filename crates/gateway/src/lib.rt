@@ -286,11 +286,11 @@ impl Gateway<'_> {
 fn deciding_entry(site: Site<'_>, address: u32) -> Entry
     ensures { result ≡ deciding_entry site.entry.cell.now site.entry.plant.now address }
 {
-    let winning = sides::winning_entry(site.cell, site.plant, address);
-    sides::entry_in(
-        winning.number,
-        sides::winner(site.cell, site.plant, address),
-    )
+    let number = match sides::winning_entry(site.cell, site.plant, address) {
+        Some(winning) => winning.number,
+        None => 0,
+    };
+    sides::entry_in(number, sides::winner(site.cell, site.plant, address))
 }
 
 // A packet that is dropped with a verdict: what it met, which facts would have had it forwarded, and the entries that made it ours.

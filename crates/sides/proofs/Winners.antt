@@ -2,6 +2,7 @@
 -- Assumes nothing.
 use mathlib.Core.List.{List, []}
 use mathlib.Core.Path.{◌≡◌, refl, sym, ap, subst, ◌∙◌}
+use Rattle.std.specs.Prelude.{Option, Some, None}
 use Prim.Native.Nat.{ℕ, ◌+◌, ◌*◌, ◌-◌, ◌≤◌, ◌<◌, ◌^◌}
 use native.Mathlib.Omega.{arith}
 use lib.ListN.{length, get_or, drop, length-take, length-drop}
@@ -16,37 +17,49 @@ use Rattle.sides.specs.declared.Side.{Side}
 use Rattle.sides.specs.declared.Side.TheVariants.{Cell, Plant, Neither}
 use Rattle.sides.specs.declared.Winning.{Winning}
 use Rattle.sides.proofs.Steps.{leads_all, made, picked, on_side, in_list, cell_holds, plant_holds}
-use Rattle.sides.specs.Lists.{best_in, side_of, entry_of, past, winner_of, winner_at, winning_of, deciding_entry}
+use Rattle.sides.specs.Lists.{best_in, side_of, entry_of, past, winner_of, winner_at, winning_of, number_in, deciding_entry}
 
 -- the five bytes at a place, and none where neither list holds the address
-pub bytes_at : List ℕ → List ℕ → Winning → List ℕ
-bytes_at cell plant winning = picked (entry_of cell winning.number) (entry_of plant winning.number) [] winning.side
+pub bytes_at : List ℕ → List ℕ → Option Winning → List ℕ
+bytes_at cell plant (Some winning) = picked (entry_of cell winning.number) (entry_of plant winning.number) [] winning.side
+bytes_at cell plant None = []
+
+-- the side of a winning entry
+abbrev pub side_in : Option Winning → Side
+side_in (Some winning) = winning.side
+side_in None = Neither
 
 module _ (cell plant : List ℕ) (address : ℕ) where
   pub same_bytes : winner_of cell plant address ≡ bytes_at cell plant (winning_of cell plant address)
   unfolding bytes_at
   same_bytes = made (bytes_at cell plant) (best_in cell address) (best_in plant address)
-      (record { side = Cell; number = (best_in cell address).number })
-      (record { side = Plant; number = (best_in plant address).number })
-      (record { side = Neither; number = 0 })
+      (Some (record { side = Cell; number = (best_in cell address).number }))
+      (Some (record { side = Plant; number = (best_in plant address).number }))
+      None
 
-  pub same_side : side_of cell plant address ≡ (winning_of cell plant address).side
-  same_side = made (λ (w : Winning). w.side) (best_in cell address) (best_in plant address)
-      (record { side = Cell; number = (best_in cell address).number })
-      (record { side = Plant; number = (best_in plant address).number })
-      (record { side = Neither; number = 0 })
+  pub same_side : side_of cell plant address ≡ side_in (winning_of cell plant address)
+  same_side = made side_in (best_in cell address) (best_in plant address)
+      (Some (record { side = Cell; number = (best_in cell address).number }))
+      (Some (record { side = Plant; number = (best_in plant address).number }))
+      None
+
+-- so on a side there is one, of its list
+pub stands_on : (w : Option Winning) (s : Side) → side_in w ≡ s → (Neither ≡ s → ⊥) → w ≡ Some (record { side = s; number = number_in w })
+stands_on (Some winning) s e some = ap (λ (t : Side). Some (record { side = t; number = winning.number })) e
+stands_on None s e some = absurd (some e)
 
 -- and where they lie: so whoever knows side and number, and where the lists lie, has the part
-pub place_at : Bor (List ℕ) → Bor (List ℕ) → Winning → ℕ × ℕ
-place_at cell plant winning =
+pub place_at : Bor (List ℕ) → Bor (List ℕ) → Option Winning → ℕ × ℕ
+place_at cell plant (Some winning) =
     picked (past cell.ref_ptr (5 * winning.number - 5)) (past plant.ref_ptr (5 * winning.number - 5)) (past cell.ref_ptr 0) winning.side
+place_at cell plant None = past cell.ref_ptr 0
 
 pub same_place : (cell plant : Bor (List ℕ)) (address : ℕ) → winner_at cell plant address ≡ place_at cell plant (winning_of cell.now plant.now address)
 unfolding place_at
 same_place cell plant address = made (place_at cell plant) (best_in cell.now address) (best_in plant.now address)
-    (record { side = Cell; number = (best_in cell.now address).number })
-    (record { side = Plant; number = (best_in plant.now address).number })
-    (record { side = Neither; number = 0 })
+    (Some (record { side = Cell; number = (best_in cell.now address).number }))
+    (Some (record { side = Plant; number = (best_in plant.now address).number }))
+    None
 
 -- ---- by value
 -- an entry stands in a part: five bytes, its address and its prefix length
@@ -117,11 +130,11 @@ module _ (cell plant : List ℕ) (in_cell : Bytes cell) (in_plant : Bytes plant)
         part_byte 3 (omega arith),
       )
 
-  numbered : (s : Side) → s ≡ side_of cell plant address → length cell < 2 ^ 64 → length plant < 2 ^ 64 → (winning_of cell plant address).number < 2 ^ 64
+  numbered : (s : Side) → s ≡ side_of cell plant address → length cell < 2 ^ 64 → length plant < 2 ^ 64 → number_in (winning_of cell plant address) < 2 ^ 64
   numbered s e few-cell few-plant =
-      subst (λ (w : Winning). w.number < 2 ^ 64) (on_side (best_in cell address) (best_in plant address) _ _ _ e) (go s)
+      subst (λ (w : Option Winning). number_in w < 2 ^ 64) (on_side (best_in cell address) (best_in plant address) _ _ _ e) (go s)
     where
-      go : (s : Side) → (picked {A = Winning} (record { side = Cell; number = (best_in cell address).number }) (record { side = Plant; number = (best_in plant address).number }) (record { side = Neither; number = 0 }) s).number < 2 ^ 64
+      go : (s : Side) → number_in (picked {A = Option Winning} (Some (record { side = Cell; number = (best_in cell address).number })) (Some (record { side = Plant; number = (best_in plant address).number })) None s) < 2 ^ 64
       go Cell = few cell address few-cell
       go Plant = few plant address few-plant
       go Neither = omega arith

@@ -1,6 +1,6 @@
 -- Document 01, "Which side", and refusal 3.
 -- Assumes nothing.
-use Rattle.std.specs.Prelude.{Bool, cond, not, ◌&&◌, ◌||◌, List, [], ℕ, zero, suc, ◌+◌, ◌*◌, ◌-◌, ◌/◌, ◌%◌, ◌^◌, eqb, leb, ltb, length, get_or, take, drop}
+use Rattle.std.specs.Prelude.{Bool, cond, Option, Some, None, not, ◌&&◌, ◌||◌, List, [], ℕ, zero, suc, ◌+◌, ◌*◌, ◌-◌, ◌/◌, ◌%◌, ◌^◌, eqb, leb, ltb, length, get_or, take, drop}
 use Rattle.std.specs.Borrow.{Bor}
 use Rattle.laws.specs.Search.{every, foremost}
 use Rattle.words.specs.Words.{four_at, whole}
@@ -85,13 +85,18 @@ winner_at cell plant address =
     (past plant.ref_ptr (5 * (best_in plant.now address).number - 5))
     (past cell.ref_ptr 0)
 
--- whose list the winning entry stands in, and its number there, from 1, with 0 where neither list holds the address
-abbrev pub winning_of : List ℕ → List ℕ → ℕ → Winning
+-- whose list the winning entry stands in, and its number there, from 1; none where neither list holds the address
+abbrev pub winning_of : List ℕ → List ℕ → ℕ → Option Winning
 winning_of cell plant address =
     decided (best_in cell address) (best_in plant address)
-    (record { side = Cell; number = (best_in cell address).number })
-    (record { side = Plant; number = (best_in plant address).number })
-    (record { side = Neither; number = 0 })
+    (Some (record { side = Cell; number = (best_in cell address).number }))
+    (Some (record { side = Plant; number = (best_in plant address).number }))
+    None
+
+-- its number, with 0 for none
+abbrev pub number_in : Option Winning → ℕ
+number_in (Some winning) = winning.number
+number_in None = 0
 
 -- document 02, K4: "the entries of the side lists that decided", by value: the number in its list, and the address and the prefix length that
 -- stand in a part; all 0 in the empty one
@@ -99,7 +104,7 @@ abbrev pub entry_in : ℕ → List ℕ → Entry
 entry_in number part = record { number = number; address = whole 4 four_at part 0; prefix = get_or part 4 0 }
 
 abbrev pub deciding_entry : List ℕ → List ℕ → ℕ → Entry
-deciding_entry cell plant address = entry_in (winning_of cell plant address).number (winner_of cell plant address)
+deciding_entry cell plant address = entry_in (number_in (winning_of cell plant address)) (winner_of cell plant address)
 
 -- "A packet is ours when one end is cell and the other plant."
 abbrev pub direction_of : Side → Side → Direction

@@ -160,24 +160,19 @@ pub fn winner<'a>(cell: &'a [u8], plant: &'a [u8], address: u32) -> &'a [u8]
     }
 }
 
-// The winning entry by its place: whose list held it, and its number there, from 1; 0 where neither holds the address.
-pub fn winning_entry(cell: &[u8], plant: &[u8], address: u32) -> Winning
+// The winning entry by its place: whose list held it, and its number there, from 1; none where neither holds the address.
+pub fn winning_entry(cell: &[u8], plant: &[u8], address: u32) -> Option<Winning>
     ensures { result ≡ winning_of cell.now plant.now address }
 {
     let [by_cell] = best_in(cell, &[address]);
     let [by_plant] = best_in(plant, &[address]);
     let side = side_by(by_cell, by_plant);
-    match side {
-        Side::Cell => Winning {
-            side,
-            number: by_cell.number,
-        },
-        Side::Plant => Winning {
-            side,
-            number: by_plant.number,
-        },
-        Side::Neither => Winning { side, number: 0 },
-    }
+    let number = match side {
+        Side::Cell => by_cell.number,
+        Side::Plant => by_plant.number,
+        Side::Neither => return None,
+    };
+    Some(Winning { side, number })
 }
 
 // The prefix length of an entry, in its part; 0 where that is empty.

@@ -20,4 +20,4 @@ pub returns-in-Neither : goal.returns-in-Neither
 returns-in-Neither c =
     let ofCell = c.best_in.ensures 0 (record { number = 0; rank = 0 }) (omega arith) in
     let ofPlant = c.best_in-2.ensures 0 (record { number = 0; rank = 0 }) (omega arith) in
-    rw c.in-Neither.is (on_side _ _ _ _ _ (decides ofCell ofPlant c.in-Neither.is c.side_by-side.ensures))
+    on_side _ _ _ _ _ (decides ofCell ofPlant c.in-Neither.is c.side_by-side.ensures)
