@@ -24,18 +24,27 @@ pub enum Verdict {
     Blocked,
 }
 
+// Document 01's numbers of the verdicts.
+impl From<Verdict> for u8 {
+    ghost from_gives = { λ verdict number. number ≡ number_of verdict };
+
+    fn from(verdict: Verdict) -> u8 {
+        match verdict {
+            Verdict::Uncounted => 1,
+            Verdict::CreditOfOne => 2,
+            Verdict::CreditOfTwo => 3,
+            Verdict::FreshContact => 4,
+            Verdict::Hygiene => 5,
+            Verdict::Blocked => 6,
+        }
+    }
+}
+
 // Document 01's number of a verdict, 1 to 6.
 pub fn number(verdict: Verdict) -> u8
     ensures { result ≡ number_of verdict }
 {
-    match verdict {
-        Verdict::Uncounted => 1,
-        Verdict::CreditOfOne => 2,
-        Verdict::CreditOfTwo => 3,
-        Verdict::FreshContact => 4,
-        Verdict::Hygiene => 5,
-        Verdict::Blocked => 6,
-    }
+    u8::from(verdict)
 }
 
 // Whether a verdict drops the packet: all but the first four do, which is one comparison.
