@@ -21,6 +21,7 @@ fn bytes_at<const N: usize>(bytes: &[u8], at: usize) -> Option<&[u8; N]>
 
 // The number that the two bytes at a place make, the most significant first where big_endian, and else the least; 0 where they are not
 // all there.
+// Kept: a reader and a writer for each width, as `from_be_bytes` and its like are methods of each type: a trait for both is longer.
 #[tactic(auto, unfolding(crate::specs::Words::whole))]
 pub fn two_in(bytes: &[u8], at: usize, big_endian: bool) -> u16
     ensures { result ≡ whole 2 (two_in big_endian) bytes.now at }
