@@ -2,4 +2,5 @@
 pub mod Text
 pub mod Lines
 pub mod Room
+pub mod Rooms
 pub mod Letters

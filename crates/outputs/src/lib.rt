@@ -4,11 +4,12 @@
 
 ghost use Rattle.std.specs.Prelude.{◌≡◌};
 ghost use Rattle.rulings.specs.Answers.{forwarded_told};
-ghost use Rattle.lines.specs.Room.{lent_room, left_room};
+ghost use Rattle.lines.specs.Rooms.{room_in};
 ghost use Rattle.capture.specs.Format.{content_of};
 ghost use Rattle.outputs.specs.Outputs.{forwarded_put, asks_why, told_put, opening_put};
 
 use capture::Record;
+use lines::Room;
 use reasons::Explanation;
 use refused::Refusal;
 use rulings::answers::Answer;
@@ -40,65 +41,57 @@ fn is_forwarded(answer: Result<Answer, Refusal>) -> bool
     }
 }
 
-// Puts a record that went through.
+// Puts a record that went through. A record for which there is no room is not written, and the place stays.
 #[tactic(auto, unfolding(crate::specs::Outputs::forwarded_put))]
-fn put_forwarded(
-    room: &mut [u8],
-    at: usize,
-    read: Record,
-    frame: &[u8],
-    answer: Result<Answer, Refusal>,
-) -> usize
-    ensures { left_room room result
-        ≡ forwarded_put (content_of read.seconds read.microseconds read.original frame.now) answer (lent_room room at) }
+fn put_forwarded(room: &mut Room, read: Record, frame: &[u8], answer: Result<Answer, Refusal>)
+    ensures same { room.new.bytes.ghost_name ≡ room.old.bytes.ghost_name }
+    ensures put { room_in room.new
+        ≡ forwarded_put (content_of read.seconds read.microseconds read.original frame.now) answer (room_in room.old) }
 {
     if is_forwarded(answer) {
         let written = capture::put_record(
-            room,
-            at,
+            room.bytes,
+            room.at,
             read.seconds,
             read.microseconds,
             read.original,
             frame,
         );
-        return written.unwrap_or(at);
+        room.at = written.unwrap_or(room.at);
     }
-    at
 }
 
 // Puts what a program puts out for a whole record: its number, what its header says, its captured bytes, what the gateway answered, and what
-// it says why where that was asked. Answers the place after it in the room.
+// it says why where that was asked.
 pub fn put_told(
     output: Output,
-    room: &mut [u8],
-    at: usize,
+    room: &mut Room,
     number: u64,
     read: Record,
     frame: &[u8],
     answer: Result<Answer, Refusal>,
     asked: Option<Result<Explanation, Refusal>>,
-) -> usize
-    ensures { left_room room result
+)
+    ensures same { room.new.bytes.ghost_name ≡ room.old.bytes.ghost_name }
+    ensures put { room_in room.new
         ≡ told_put output number (content_of read.seconds read.microseconds read.original frame.now) answer asked
-        (lent_room room at) }
+        (room_in room.old) }
 {
     match output {
-        Output::Lines => lines::put_line(room, at, number, answer),
-        Output::Forwarded => put_forwarded(room, at, read, frame, answer),
+        Output::Lines => room.line(number, answer),
+        Output::Forwarded => put_forwarded(room, read, frame, answer),
         Output::Reasons(wanted) => {
-            explanations::put_asked(room, at, wanted, number, read.seconds, asked)
+            explanations::put_asked(room, wanted, number, read.seconds, asked)
         }
     }
 }
 
-// Puts what a program puts out before the first record, once the capture's header is read: a header of its own, or nothing. Answers the
-// place after it in the room.
-pub fn put_opening(output: Output, room: &mut [u8], at: usize) -> usize
-    ensures { left_room room result ≡ opening_put output (lent_room room at) }
+// Puts what a program puts out before the first record, once the capture's header is read: a header of its own, or nothing.
+pub fn put_opening(output: Output, room: &mut Room)
+    ensures same { room.new.bytes.ghost_name ≡ room.old.bytes.ghost_name }
+    ensures put { room_in room.new ≡ opening_put output (room_in room.old) }
 {
-    match output {
-        Output::Lines => at,
-        Output::Forwarded => capture::put_header(room, at).unwrap_or(at),
-        Output::Reasons(_) => at,
+    if matches!(output, Output::Forwarded) {
+        room.at = capture::put_header(room.bytes, room.at).unwrap_or(room.at);
     }
 }

@@ -1,27 +1,19 @@
--- `explanations::put_filled` meets its contract. So many letters were put; the measure is how many are left.
+-- `explanations::put_filled` meets its contract: what is left of the text is put after what was.
 -- Assumes nothing.
-use mathlib.Core.Path.{refl, ◌∙◌}
-use native.Mathlib.Omega.{arith}
-use Rattle.lines.specs.Room.{room_of}
+use mathlib.Core.Path.{◌∙◌}
+use Rattle.lines.specs.Rooms.{room_in}
 use Rattle.explanations.proofs.Filled.{fill_next, fill_end}
 use Rattle.explanations.proofs.put_filled.Goals as goal
 
-pub loop-done-init : goal.loop-done-init
-loop-done-init c = (omega arith, refl, refl)
-
-pub loop-done-preserved : goal.loop-done-preserved
-loop-done-preserved c =
-    let l = c.loop-done in (
-      omega arith,
-      c.put_letter-next.auto.room ∙ l.invariant.1,
-      fill_next c.args.report c.args.text.now l.marked l.done (room_of l.next l.room) c.loop-done-test.true c.put_letter-next.ensures
-          ∙ l.invariant.2,
+pub loop-byte-preserved : goal.loop-byte-preserved
+loop-byte-preserved c =
+    let l = c.loop-byte in (
+      c.put_letter.ensures.same ∙ l.invariant.0,
+      fill_next c.args.report c.args.text.now l.marked l.byte-index (room_in l.room) c.loop-byte-test.true c.put_letter.ensures.put
+          ∙ l.invariant.1,
     )
 
-pub shape_of-room : goal.shape_of-room
-shape_of-room c = c.loop-done.invariant.1
-
-pub returns : goal.returns
-returns c =
-    let l = c.loop-done in
-    fill_end c.args.report c.args.text.now l.marked l.done (room_of l.next l.room) c.loop-done-test.false ∙ l.invariant.2
+pub returns-clause-put : goal.returns-clause-put
+returns-clause-put c =
+    let l = c.loop-byte in
+    fill_end c.args.report c.args.text.now l.marked l.byte-index (room_in l.room) c.loop-byte-test.false ∙ l.invariant.1

@@ -4,7 +4,7 @@ use Rattle.lines.specs.Letters.{text}
 use Rattle.lines.proofs.Rooms.{text_then}
 use Rattle.explanations.proofs.put_first_line.Goals as goal
 
-pub returns : goal.returns
+pub returns-clause-put : goal.returns-clause-put
 unfolding text
-returns c = text_then _ _ _ c.put_filled-next.ensures
-    (text_then _ _ _ c.put_facts-next.ensures c.put_text.ensures)
+returns-clause-put c =
+    text_then _ _ _ c.put_filled.ensures.put (text_then _ _ _ c.put_facts.ensures.put c.text.ensures.put)

@@ -4,6 +4,6 @@ use Rattle.lines.specs.Letters.{text}
 use Rattle.lines.proofs.Rooms.{text_then}
 use Rattle.explanations.proofs.put_ways_through.Goals as goal
 
-pub returns : goal.returns
+pub returns-clause-put : goal.returns-clause-put
 unfolding text
-returns c = text_then _ _ _ c.put_filled-next.ensures c.put_facts.ensures
+returns-clause-put c = text_then _ _ _ c.put_filled.ensures.put c.put_facts.ensures.put
