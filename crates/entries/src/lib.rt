@@ -12,19 +12,18 @@ struct Room {
 }
 
 // The way of the first non-empty entry with this tag, or 4.
+// Kept: with a struct of two arrays, and ways as options, a count_of and a write take 78 instructions and not 66.
 fn own_way(tags: &[u32], counts: &[i16], tag: u32) -> usize
     requires { (length tags.now ≡ 4) × (length counts.now ≡ 4) }
     ensures { result ≡ own_way tag tags.now counts.now }
 {
-    let mut way = 0;
-    while way < 4 {
+    for way in 0..4 {
         let empty = counts::is_empty(counts[way]);
         if !empty & (tags[way] == tag) {
             return way;
         }
-        way += 1;
     }
-    way
+    4
 }
 
 // The way of the first empty entry, or 4.
@@ -32,14 +31,12 @@ fn empty_way(counts: &[i16]) -> usize
     requires { length counts.now ≡ 4 }
     ensures { result ≡ empty_way counts.now }
 {
-    let mut way = 0;
-    while way < 4 {
+    for way in 0..4 {
         if counts::is_empty(counts[way]) {
             return way;
         }
-        way += 1;
     }
-    way
+    4
 }
 
 // The way of the smallest count, the lowest on a tie.
@@ -48,12 +45,10 @@ fn smallest_way(counts: &[i16]) -> usize
     ensures { result ≡ smallest_way counts.now }
 {
     let mut best = 0;
-    let mut way = 1;
-    while way < 4 {
+    for way in 1..4 {
         if counts[way] < counts[best] {
             best = way;
         }
-        way += 1;
     }
     best
 }

@@ -61,9 +61,13 @@ impl Settings {
     pub fn with_threshold(self, threshold: u16) -> Settings
         ensures { result ≡ with_threshold threshold self }
     {
-        let mut set = self;
-        set.limits.threshold = threshold;
-        set
+        Settings {
+            limits: Limits {
+                threshold,
+                ..self.limits
+            },
+            ..self
+        }
     }
 }
 
@@ -72,6 +76,7 @@ impl Limits {
     pub fn is_bad(self) -> bool
         ensures { result ≡ bad_limits self }
     {
+        // Kept: with `(1..=255).contains(&threshold)` the proof is left open at `returns`, whose tests then go through `partial_cmp`.
         let threshold = self.threshold;
         let floor = self.floor;
         let dmiss = self.dmiss;

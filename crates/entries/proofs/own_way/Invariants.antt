@@ -1,11 +1,7 @@
 -- `entries::own_way` meets its contract: a search of four ways.
-use Prim.Native.Nat.{◌-◌}
 use Rattle.laws.proofs.Search.{Searching}
 use Rattle.entries.specs.Entries.{is_own}
 use Rattle.entries.proofs.own_way.Given as goal
 
 abbrev pub invariant-loop-way : goal.invariant-loop-way
 invariant-loop-way l = Searching 4 (is_own l.tag l.tags l.counts) l.way
-
-abbrev pub decreases-loop-way : goal.decreases-loop-way
-decreases-loop-way l = 4 - l.way
