@@ -3,7 +3,7 @@
 
 ghost use Rattle.std.specs.Prelude.{◌≡◌};
 ghost use Rattle.rulings.specs.Answers.{verdict_told};
-ghost use Rattle.tally.specs.Tally.{empty_tally, one_more, tallied, verdict_numbered};
+ghost use Rattle.tally.specs.Tally.{empty_tally, tallied, verdict_numbered};
 
 use rulings::answers::Answer;
 
@@ -12,13 +12,6 @@ use rulings::answers::Answer;
 #[derive(Clone, Copy)]
 pub struct Tally {
     pub totals: [u32; 7],
-}
-
-// One more, or the largest total there is.
-fn one_more(total: u32) -> u32
-    ensures { result ≡ one_more total }
-{
-    if total < 4294967295 { total + 1 } else { total }
 }
 
 impl Tally {
@@ -36,9 +29,9 @@ impl Tally {
         if 6 < number {
             return self;
         }
-        let at = number as usize;
+        let at = usize::from(number);
         let mut tally = self;
-        tally.totals[at] = one_more(tally.totals[at]);
+        tally.totals[at] = tally.totals[at].saturating_add(1);
         tally
     }
 

@@ -10,4 +10,4 @@ returns-then-number-gt6 c = sym (beyond_seven _ _ c.if-number-gt6.true)
 
 pub returns : goal.returns
 unfolding tallied
-returns c = (rw c.one_more.ensures) ∙ sym (one_of_seven c.args.self _ c.if-number-gt6.false)
+returns c = (rw (c.saturating_add.ensures, c.from-at.ensures)) ∙ sym (one_of_seven c.args.self _ c.if-number-gt6.false)
