@@ -6,139 +6,58 @@ use outputs::Output;
 use std::io::{Cursor, Error, Write};
 use std::rt::HostRuntime;
 use std::time::Duration;
-use std::{str, thread};
-use streams::Filled;
-use turns::Stage;
+use std::{io, str, thread};
+use turns::{Stage, Stream};
 
-const STDOUT: i32 = 1;
-
-const STDERR: i32 = 2;
-
-// What a program reads from and writes to, and by which error of the system's its last read failed, or 0.
+// What a program reads from and writes to, what it is to put out and where it puts that, and by which error its last read failed, if it did.
 #[derive(Drop)]
 struct World {
     rt: HostRuntime,
-    error: i32,
+    output: Output,
+    room: [u8; 65536],
+    error: Option<Error>,
 }
 
-// Waits for two milliseconds.
-fn pause(rt: &HostRuntime) {
-    thread::sleep(rt, Duration::from_millis(2));
+// The records of a capture: those bytes of them that are at hand, their byte order, and the gateway's tables and clock.
+#[derive(Drop)]
+struct Records {
+    input: [u8; 262144],
+    big_endian: bool,
+    records: [u8; 4096],
+    tags: [u32; 1024],
+    counts: [i16; 1024],
+    clock: u32,
 }
 
 // Whether a read failed that would only have had to wait.
-fn has_to_wait(filled: Filled) -> bool {
-    if turns::has_failed(filled.got) {
-        return turns::is_early(filled.error);
+fn has_to_wait(filled: &io::Result<usize>) -> bool {
+    match filled {
+        Ok(_) => false,
+        Err(error) => error.raw_os_error().is_some_and(turns::is_early),
     }
-    false
 }
 
-// Reads behind so many bytes that are held. Where a read would only have had to wait, it waits and reads again: that is neither an end nor a
-// failure. As in `run` below the turns are counted, for a proved loop has to end.
-fn fill(rt: &HostRuntime, input: &mut [u8], held: usize) -> Filled {
+// Reads behind so many bytes that are held. Where a read would only have had to wait, it waits two milliseconds and reads again: that is
+// neither an end nor a failure. As in `run` below the turns are counted, for a proved loop has to end.
+fn fill(rt: &HostRuntime, input: &mut [u8], held: usize) -> io::Result<usize> {
     let mut stdin = rt.stdin();
     let mut filled = streams::fill(&mut stdin, input, held);
     for _ in 0..u64::MAX {
-        if !has_to_wait(filled) {
+        if !has_to_wait(&filled) {
             break;
         }
-        pause(rt);
+        thread::sleep(rt, Duration::from_millis(2));
         filled = streams::fill(&mut stdin, input, held);
     }
     filled
 }
 
-// Reads, where that is wanted.
-fn refill(world: &mut World, input: &mut [u8], stage: Stage) -> Stage {
-    if stage.wants_bytes {
-        let filled = fill(&world.rt, input, stage.held);
-        world.error = filled.error;
-        return turns::refilled(stage, filled.held, filled.got);
-    }
-    stage
-}
-
-// Writes all of it to standard output or standard error, and answers whether it could. There are no other streams.
-fn write_all(rt: &HostRuntime, to: i32, bytes: &[u8]) -> bool {
+// Writes all of it, and answers whether it could.
+fn write_all(rt: &HostRuntime, to: Stream, bytes: &[u8]) -> bool {
     match to {
-        STDOUT => rt.stdout().write_all(bytes).is_ok(),
-        STDERR => rt.stderr().write_all(bytes).is_ok(),
-        _ => true,
+        Stream::Stdout => rt.stdout().write_all(bytes).is_ok(),
+        Stream::Stderr => rt.stderr().write_all(bytes).is_ok(),
     }
-}
-
-// Writes what was put.
-fn write(world: &World, to: i32, room: &[u8], put: usize) -> bool {
-    let end = streams::within(room, put);
-    write_all(&world.rt, to, &room[..end])
-}
-
-// Puts out what the whole records at hand are due, and writes it.
-fn tell(
-    world: &World,
-    output: Output,
-    input: &mut [u8],
-    big_endian: bool,
-    room: &mut [u8],
-    records: &mut [u8],
-    tags: &mut [u32],
-    counts: &mut [i16],
-    clock: &mut u32,
-    stage: Stage,
-) -> Stage {
-    let next = turns::take(
-        output, input, big_endian, room, records, tags, counts, clock, stage,
-    );
-    let progress = next.progress;
-    turns::written(next, write(world, STDOUT, room, progress.put))
-}
-
-// A read, where one is wanted, and what is due, where it goes on.
-fn turn(
-    world: &mut World,
-    output: Output,
-    input: &mut [u8],
-    big_endian: bool,
-    room: &mut [u8],
-    records: &mut [u8],
-    tags: &mut [u32],
-    counts: &mut [i16],
-    clock: &mut u32,
-    stage: Stage,
-) -> Stage {
-    let next = refill(world, input, stage);
-    if turns::goes_on(next) {
-        return tell(
-            world, output, input, big_endian, room, records, tags, counts, clock, next,
-        );
-    }
-    next
-}
-
-// A proved loop has to end, and nothing says that standard input does. So the loop counts its turns, up to a number that no run uses up.
-fn run(
-    world: &mut World,
-    output: Output,
-    input: &mut [u8],
-    big_endian: bool,
-    room: &mut [u8],
-    records: &mut [u8],
-    tags: &mut [u32],
-    counts: &mut [i16],
-    clock: &mut u32,
-    is_opened: bool,
-) -> Stage {
-    let mut stage = turns::first(is_opened);
-    for _ in 0..u64::MAX {
-        if !turns::goes_on(stage) {
-            break;
-        }
-        stage = turn(
-            world, output, input, big_endian, room, records, tags, counts, clock, stage,
-        );
-    }
-    stage
 }
 
 // The system's words for an error, as std shows it, without the error's number behind them.
@@ -150,97 +69,137 @@ fn words_of(shown: &str) -> &str {
 }
 
 // Writes a line to standard error: what failed, a colon and why.
-fn fail(rt: &HostRuntime, what: &[u8], error: i32) {
+fn fail(rt: &HostRuntime, what: &[u8], error: Error) {
     let mut shown = Cursor::new([0u8; 256]);
-    let _ = write!(shown, "{}", Error::from_raw_os_error(error));
+    let _ = write!(shown, "{error}");
     let length = shown.position() as usize;
     let bytes = shown.into_inner();
     let end = streams::within(&bytes, length);
-    let words = match str::from_utf8(&bytes[..end]) {
-        Ok(shown) => words_of(shown),
-        Err(_) => "",
-    };
-    write_all(rt, STDERR, what);
-    write_all(rt, STDERR, b": ");
-    write_all(rt, STDERR, words.as_bytes());
-    write_all(rt, STDERR, b"\n");
-}
-
-// Says on standard error that standard input could not be read, and why.
-fn tell_lost(world: &World, output: Output, room: &mut [u8]) {
-    let put = turns::put_lost(output, room);
-    let end = streams::within(room, put);
-    fail(&world.rt, &room[..end], world.error);
-}
-
-// Says what is to be said beside output at the very end: that a record is missing, or that a read failed.
-fn tell_beside(world: &World, output: Output, room: &mut [u8], stage: Stage) {
-    let put = turns::put_missing(output, room, stage);
-    write(world, STDERR, room, put);
-    if stage.is_lost {
-        tell_lost(world, output, room);
+    let words = str::from_utf8(&bytes[..end]).map_or("", words_of);
+    for part in [what, b": ", words.as_bytes(), b"\n"] {
+        write_all(rt, Stream::Stderr, part);
     }
 }
 
-// Says how the capture ended, unless something was lost: then the last line is missing.
-fn end(world: &World, output: Output, room: &mut [u8], stage: Stage) {
-    let put = turns::put_end(room, stage);
-    let is_written = write(world, turns::ending_goes_to(output), room, put);
-    tell_beside(world, output, room, turns::written(stage, is_written));
-}
+impl World {
+    // Reads, where that is wanted.
+    fn refill(&mut self, input: &mut [u8], stage: Stage) -> Stage {
+        if !stage.wants_bytes {
+            return stage;
+        }
+        let filled = fill(&self.rt, input, stage.held);
+        self.error = filled.err();
+        turns::refilled(stage, filled)
+    }
 
-// Replays a capture whose header was read.
-fn replay_records(
-    world: &mut World,
-    output: Output,
-    big_endian: bool,
-    room: &mut [u8],
-    is_opened: bool,
-) {
-    let mut input = [0u8; 262144];
-    let mut records = [0u8; 4096];
-    let mut tags = [0u32; 1024];
-    let mut counts = [-32768i16; 1024];
-    let mut clock = 0u32;
-    let stage = run(
-        world,
-        output,
-        &mut input,
-        big_endian,
-        room,
-        &mut records,
-        &mut tags,
-        &mut counts,
-        &mut clock,
-        is_opened,
-    );
-    end(world, output, room, stage);
-}
+    // Writes what was put.
+    fn write(&self, to: Stream, put: usize) -> bool {
+        let end = streams::within(&self.room, put);
+        write_all(&self.rt, to, &self.room[..end])
+    }
 
-// Reads the capture's header, or what there is of it. A read brings a byte or more, or is the last: so many turns are enough.
-fn read_header(world: &mut World, header: &mut [u8]) -> Stage {
-    let mut stage = turns::first(true);
-    for _ in 0..24 {
-        if turns::lacks_header(stage) {
-            stage = refill(world, header, stage);
+    // Puts out what the whole records at hand are due, and writes it.
+    fn tell(&mut self, capture: &mut Records, stage: Stage) -> Stage {
+        let next = turns::take(
+            self.output,
+            &mut capture.input,
+            capture.big_endian,
+            &mut self.room,
+            &mut capture.records,
+            &mut capture.tags,
+            &mut capture.counts,
+            &mut capture.clock,
+            stage,
+        );
+        turns::written(next, self.write(Stream::Stdout, next.progress.put))
+    }
+
+    // A read, where one is wanted, and what is due, where it goes on.
+    fn turn(&mut self, capture: &mut Records, stage: Stage) -> Stage {
+        let next = self.refill(&mut capture.input, stage);
+        if turns::goes_on(next) {
+            self.tell(capture, next)
+        } else {
+            next
         }
     }
-    stage
-}
 
-// Begins by the header's bytes, and goes on where it opens.
-fn replay_from(world: &mut World, output: Output, header: &[u8], room: &mut [u8], stage: Stage) {
-    let begun = turns::begin(output, header, room);
-    let is_written = write(
-        world,
-        turns::beginning_goes_to(output, begun.is_open),
-        room,
-        begun.put,
-    );
-    if begun.is_open {
-        replay_records(world, output, begun.big_endian, room, is_written);
-    } else {
-        tell_beside(world, output, room, turns::written(stage, is_written));
+    // A proved loop has to end, and nothing says that standard input does. So the loop counts its turns, up to a number that no run uses up.
+    fn run(&mut self, capture: &mut Records, is_opened: bool) -> Stage {
+        let mut stage = turns::first(is_opened);
+        for _ in 0..u64::MAX {
+            if !turns::goes_on(stage) {
+                break;
+            }
+            stage = self.turn(capture, stage);
+        }
+        stage
+    }
+
+    // Says on standard error that standard input could not be read, and why.
+    fn tell_lost(&mut self, error: Error) {
+        let put = turns::put_lost(self.output, &mut self.room);
+        let end = streams::within(&self.room, put);
+        fail(&self.rt, &self.room[..end], error);
+    }
+
+    // Says what is to be said beside output at the very end: that a record is missing, or that a read failed.
+    fn tell_beside(&mut self, stage: Stage) {
+        let put = turns::put_missing(self.output, &mut self.room, stage);
+        self.write(Stream::Stderr, put);
+        if stage.is_lost
+            && let Some(error) = self.error
+        {
+            self.tell_lost(error);
+        }
+    }
+
+    // Says how the capture ended, unless something was lost: then the last line is missing.
+    fn end(&mut self, stage: Stage) {
+        let put = turns::put_end(&mut self.room, stage);
+        let is_written = self.write(turns::ending_goes_to(self.output), put);
+        self.tell_beside(turns::written(stage, is_written));
+    }
+
+    // Replays a capture whose header was read.
+    fn replay_records(&mut self, big_endian: bool, is_opened: bool) {
+        let input = [0; 262144];
+        let records = [0; 4096];
+        let tags = [0; 1024];
+        let counts = [i16::MIN; 1024];
+        let mut capture = Records {
+            input,
+            big_endian,
+            records,
+            tags,
+            counts,
+            clock: 0,
+        };
+        let stage = self.run(&mut capture, is_opened);
+        self.end(stage);
+    }
+
+    // Reads the capture's header, or what there is of it. A read brings a byte or more, or is the last: so many turns are enough.
+    fn read_header(&mut self, header: &mut [u8; 24]) -> Stage {
+        let mut stage = turns::first(true);
+        for _ in 0..24 {
+            if turns::lacks_header(stage) {
+                stage = self.refill(header, stage);
+            }
+        }
+        stage
+    }
+
+    // Begins by the header's bytes, and goes on where it opens.
+    fn replay_from(&mut self, header: &[u8], stage: Stage) {
+        let begun = turns::begin(self.output, header, &mut self.room);
+        let to = turns::beginning_goes_to(self.output, begun.is_open);
+        let is_written = self.write(to, begun.put);
+        if begun.is_open {
+            self.replay_records(begun.big_endian, is_written);
+        } else {
+            self.tell_beside(turns::written(stage, is_written));
+        }
     }
 }
 
@@ -248,14 +207,19 @@ fn replay_from(world: &mut World, output: Output, header: &[u8], room: &mut [u8]
 // answers nothing, and ends where standard input ends, where the capture is refused by 7 or a record by 8, or where something cannot be
 // read or written: then the last line is missing, and of a read that failed a sentence on standard error tells why.
 pub fn replay(rt: &HostRuntime, output: Output) {
-    let mut world = World { rt: *rt, error: 0 };
-    let mut room = [0u8; 65536];
-    let mut header = [0u8; 24];
-    let stage = read_header(&mut world, &mut header);
+    let room = [0; 65536];
+    let mut world = World {
+        rt: *rt,
+        output,
+        room,
+        error: None,
+    };
+    let mut header = [0; 24];
+    let stage = world.read_header(&mut header);
     let end = streams::within(&header, stage.held);
     if turns::is_sound(stage) {
-        replay_from(&mut world, output, &header[..end], &mut room, stage);
+        world.replay_from(&header[..end], stage);
     } else {
-        tell_beside(&world, output, &mut room, stage);
+        world.tell_beside(stage);
     }
 }

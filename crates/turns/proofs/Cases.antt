@@ -26,15 +26,6 @@ use Rattle.streams.specs.Streams.{held_of, shifted}
 use Rattle.turns.specs.declared.Stage.{Stage}
 use Rattle.turns.specs.Turns.{begun_anew, is_early, taken_stage, is_sound, ends_refused, ending_due, beginning_of, begun_by, turn_of, turn_taken}
 
--- ---- a read that failed
--- the bits of an error's number are that number, and those of a negative one are larger than any
-pub early_bits : (error : ℤ) → SFits w32 error → (eqb (of_z w32 error) 11 || eqb (of_z w32 error) 4) ≡ is_early error
-early_bits (pos n) f = refl
-early_bits (negsuc n) f =
-    or_no
-    (ne_eqb (4294967296 - suc n) 11 (λ (e : 4294967296 - suc n ≡ 11). omega (arith, f)))
-    (ne_eqb (4294967296 - suc n) 4 (λ (e : 4294967296 - suc n ≡ 4). omega (arith, f)))
-
 -- ---- the end
 -- bytes that are put on a condition, and none else
 pub put_if : (t : Bool) (bytes : List ℕ) (room after : Room) → t ≡ true → after ≡ put bytes room → after ≡ put (cond t bytes []) room

@@ -7,7 +7,7 @@ use mathlib.Core.Logic.{⊎_elim}
 use Prim.Native.Nat.{ℕ, zero, suc, ◌+◌, ◌-◌, ◌≤◌, ◌<◌}
 use native.Mathlib.Omega.{arith}
 use lib.ListN.{length, take, drop, length-append, length-drop, take-append-drop}
-use lib.Seq.{take_all, take_at, drop_at, take-add, take-paste, length-paste, take-append_seam, length-take-le}
+use lib.Seq.{paste, take_all, take_at, drop_at, take-add, take-paste, length-paste, take-append_seam, length-take-le}
 use borrow.Author.Tests.{le-leb, lt-leb}
 use Rattle.laws.proofs.Tests.{Which, below, above, which}
 use Rattle.words.specs.Words.{stored}
@@ -55,7 +55,7 @@ shift_so at held input h g =
       long = ap (λ (x : Held). length x.bytes) e ∙ length-paste input 0 (drop at input) n (omega arith) few;
       front =
           ap (λ (x : Held). take n x.bytes) e
-          ∙ ap (λ (k : ℕ). take k (shifts.copied at input n)) (sym zeroth)
+          ∙ ap (λ (k : ℕ). take k (paste input 0 (drop at input) n)) (sym zeroth)
           ∙ take-paste input 0 (drop at input) n (omega arith) few
           ∙ sym (drop_of_take at n input (omega arith))
           ∙ ap (λ (k : ℕ). drop at (take k input)) sum;

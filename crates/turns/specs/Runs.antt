@@ -1,6 +1,6 @@
 -- A whole run of a program, from the first byte of standard input: what stands on standard output at its end, and what was said beside it.
 -- Assumes nothing.
-use Rattle.std.specs.Prelude.{Bool, true, false, cond, List, [], ◌∷◌, ◌++◌, ℕ, zero, suc, min, ◌+◌, ◌-◌, ◌<◌, eqb, leb, ℤ, pos, negsuc, length, take, drop}
+use Rattle.std.specs.Prelude.{Bool, true, false, cond, List, [], ◌∷◌, ◌++◌, ℕ, zero, suc, min, ◌+◌, ◌-◌, ◌<◌, eqb, leb, length, take, drop}
 use Rattle.words.specs.Words.{stored}
 use Rattle.capture.specs.declared.Opened.{Opened}
 use Rattle.capture.specs.declared.Opened.TheVariants.{Refused, Open}
@@ -13,6 +13,8 @@ use Rattle.outputs.specs.declared.Output.TheVariants.{Lines, Forwarded, Reasons}
 use Rattle.endings.specs.Endings.{header_refused}
 use Rattle.feeding.specs.Whole.{told_of_capture, ending_of, program_tables}
 use Rattle.turns.specs.declared.Stage.{Stage}
+use Rattle.turns.specs.declared.Stream.{Stream}
+use Rattle.turns.specs.declared.Stream.TheVariants.{Stdout, Stderr}
 use Rattle.turns.specs.Turns.{Turn, turn_of, window_of, turn_taken, first_stage, refilled_stage, written_stage, is_sound, goes_on, lacks_header, ending_due, ending_stream, beginning_stream, is_missing, missing_words, missing_due, lost_words, Beginning, begun_by}
 
 -- ---- what is read
@@ -104,14 +106,10 @@ module _ (takes : ℕ) where
   run output big (suc turns) r = cond (goes_on r.turn.stage) (run output big turns (one_turn output big r)) r
 
 -- ---- how it ends
--- where what is written to a stream stands: 1 is standard output, 2 standard error, and what goes to any other is seen nowhere
-abbrev pub on_output : ℤ → Bool
-on_output (pos n) = eqb n 1
-on_output (negsuc n) = false
-
-abbrev pub on_error : ℤ → Bool
-on_error (pos n) = eqb n 2
-on_error (negsuc n) = false
+-- whether what is written to a stream stands on standard output; else it stands on standard error
+abbrev pub on_output : Stream → Bool
+on_output Stdout = true
+on_output Stderr = false
 
 -- all of standard output, and of standard error, which takes all that is said
 pub record Said : Type 0 where
@@ -134,11 +132,11 @@ module _ (takes : ℕ) (reason : List ℕ) (output : Output) where
       }
 
   -- lines that go to a stream, and what is said after them
-  abbrev pub said_last : ℤ → Stage → List ℕ → List ℕ → List ℕ → Said
+  abbrev pub said_last : Stream → Stage → List ℕ → List ℕ → List ℕ → Said
   said_last stream s room out lines =
       cond (on_output stream)
       (said_beside (written_stage s (is_taken takes out lines)) room (put_out takes out lines) [])
-      (said_beside (written_stage s true) room out (cond (on_error stream) lines []))
+      (said_beside (written_stage s true) room out lines)
 
   -- how the capture ended
   abbrev pub said_ending : Run → Room → Said

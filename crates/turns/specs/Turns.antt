@@ -1,7 +1,6 @@
 -- What a program that replays a capture decides in a turn: when it reads, when it goes on, what it says at the end, and where.
 -- Assumes nothing.
 use Rattle.std.specs.Prelude.{Bool, true, false, cond, not, ◌&&◌, ◌||◌, List, [], ℕ, min, eqb, leb, ltb, ℤ, pos, negsuc, length, take}
-use Rattle.std.specs.Int.Signed.{lt_z}
 use Rattle.capture.specs.declared.Opened.{Opened}
 use Rattle.capture.specs.declared.Opened.TheVariants.{Refused, Open}
 use Rattle.gateway.specs.Calls.{State}
@@ -16,6 +15,8 @@ use Rattle.feeding.specs.Feeding.{Replayed, replayed_of, fed}
 use Rattle.streams.specs.Streams.{Held, shifted}
 use Rattle.turns.specs.declared.Stage.{Stage}
 use Rattle.turns.specs.declared.Begun.{Begun}
+use Rattle.turns.specs.declared.Stream.{Stream}
+use Rattle.turns.specs.declared.Stream.TheVariants.{Stdout, Stderr}
 
 -- ---- where it starts, and goes on from
 abbrev pub none_yet : Progress
@@ -35,10 +36,6 @@ begun_anew p = record { at = 0; put = 0; records = p.records; refusals = p.refus
 abbrev pub is_early : ℤ → Bool
 is_early (pos error) = eqb error 11 || eqb error 4
 is_early (negsuc n) = false
-
--- a read answers how many bytes it brought, or fewer than none where it failed
-abbrev pub has_failed : ℤ → Bool
-has_failed got = lt_z got (pos 0)
 
 -- input has ended where a read brought nothing; what is said of a read that failed is not that input has ended
 abbrev pub refilled_stage : Stage → ℕ → Bool → Stage
@@ -100,14 +97,13 @@ ends_refused s = s.progress.is_over || ltb 0 s.held
 abbrev pub ending_due : Stage → List ℕ
 ending_due s = cond (is_sound s) (ending (ends_refused s) s.progress.records s.progress.refusals) []
 
--- standard output is 1, standard error 2
-abbrev pub ending_stream : Output → ℤ
-ending_stream Lines = pos 1
-ending_stream Forwarded = pos 2
-ending_stream (Reasons wanted) = pos 1
+abbrev pub ending_stream : Output → Stream
+ending_stream Lines = Stdout
+ending_stream Forwarded = Stderr
+ending_stream (Reasons wanted) = Stdout
 
-abbrev pub beginning_stream : Output → Bool → ℤ
-beginning_stream output opens = cond opens (pos 1) (ending_stream output)
+abbrev pub beginning_stream : Output → Bool → Stream
+beginning_stream output opens = cond opens Stdout (ending_stream output)
 
 -- ---- what is said beside output
 -- the number of the record that alone is wanted, or 0

@@ -2,18 +2,32 @@
 // writes asks here, and does as it is told.
 #![tactic(auto)]
 
-ghost use Rattle.std.specs.Prelude.{◌≡◌};
+ghost use Rattle.std.specs.Prelude.{is_err, ◌≡◌};
 ghost use Rattle.capture.specs.Capture.{opened_of};
 ghost use Rattle.gateway.specs.Calls.{lent, left_state};
 ghost use Rattle.replay.specs.Replay.{program_placing};
+ghost use Rattle.streams.specs.Streams.{held_after};
 ghost use Rattle.lines.specs.Room.{lent_room, left_room, put};
-ghost use Rattle.turns.specs.Turns.{first_stage, begun_anew, is_early, has_failed, refilled_stage, taken_stage, written_stage, is_sound, goes_on, lacks_header};
+ghost use Rattle.turns.specs.Turns.{first_stage, begun_anew, is_early, refilled_stage, taken_stage, written_stage, is_sound, goes_on, lacks_header};
 ghost use Rattle.turns.specs.Turns.{ends_refused, ending_due, ending_stream, beginning_stream, wanted_of, is_missing, missing_due, lost_words};
 ghost use Rattle.turns.specs.Turns.{beginning_of, begun_by, turn_of, turn_taken};
 
 use capture::Opened;
 use feeding::Progress;
 use outputs::Output;
+use std::io;
+
+// The system's numbers of a read that has to wait for bytes, where input does not block, and of one that a signal interrupted.
+const EAGAIN: i32 = 11;
+
+const EINTR: i32 = 4;
+
+// Where a program writes.
+#[derive(Clone, Copy)]
+pub enum Stream {
+    Stdout,
+    Stderr,
+}
 
 // How many bytes of input are held, how far the program has come, whether more bytes are wanted before it comes further, whether input has
 // ended, whether a read failed, and whether all that was put out so far was written.
@@ -63,38 +77,35 @@ fn anew(progress: Progress) -> Progress
     Progress {
         at: 0,
         put: 0,
-        records: progress.records,
-        refusals: progress.refusals,
         has_more: true,
-        is_over: progress.is_over,
+        ..progress
     }
 }
 
-// Whether a read that failed by this error of the system's would only have had to wait: for bytes, where input does not block (EAGAIN), or
-// for a signal to pass (EINTR).
+// Whether a read that failed by this error of the system's would only have had to wait: for bytes, or for a signal to pass.
 pub fn is_early(error: i32) -> bool
     ensures { result ≡ is_early error }
 {
-    (error == 11) | (error == 4)
+    matches!(error, EAGAIN | EINTR)
 }
 
-// Whether a read failed, by what it answered: how many bytes it brought, and fewer than none where it failed.
-pub fn has_failed(got: isize) -> bool
-    ensures { result ≡ has_failed got }
+// After a read, which answered how many bytes are held then, or that it failed.
+pub fn refilled(stage: Stage, filled: io::Result<usize>) -> Stage
+    ensures { result ≡ refilled_stage stage (held_after stage.held filled) (is_err filled) }
 {
-    got < 0
-}
-
-// After a read, with so many bytes held then, by what it answered.
-pub fn refilled(stage: Stage, held: usize, got: isize) -> Stage
-    ensures { result ≡ refilled_stage stage held (has_failed got) }
-{
-    let has_failed = has_failed(got);
-    let mut next = stage;
-    next.held = held;
-    next.has_ended = !has_failed & (held <= stage.held);
-    next.is_lost = has_failed;
-    next
+    match filled {
+        Ok(held) => Stage {
+            held,
+            has_ended: held <= stage.held,
+            is_lost: false,
+            ..stage
+        },
+        Err(_) => Stage {
+            has_ended: false,
+            is_lost: true,
+            ..stage
+        },
+    }
 }
 
 // After the whole records at hand were told. More bytes are wanted where those at hand hold no further whole record, or where there are none.
@@ -105,9 +116,7 @@ fn taken(stage: Stage, held: usize, progress: Progress) -> Stage
         held,
         progress,
         wants_bytes: !progress.has_more | (held == 0),
-        has_ended: stage.has_ended,
-        is_lost: stage.is_lost,
-        is_written: stage.is_written,
+        ..stage
     }
 }
 
@@ -115,9 +124,10 @@ fn taken(stage: Stage, held: usize, progress: Progress) -> Stage
 pub fn written(stage: Stage, is_written: bool) -> Stage
     ensures { result ≡ written_stage stage is_written }
 {
-    let mut next = stage;
-    next.is_written = stage.is_written & is_written;
-    next
+    Stage {
+        is_written: stage.is_written & is_written,
+        ..stage
+    }
 }
 
 // Whether nothing was lost, in or out.
@@ -170,22 +180,21 @@ pub fn put_end(room: &mut [u8], stage: Stage) -> usize
 
 // Where the lines go that say how the capture ended. They are the printing program's last lines; where standard output is a capture itself
 // they go beside it.
-pub fn ending_goes_to(output: Output) -> i32
+pub fn ending_goes_to(output: Output) -> Stream
     ensures { result ≡ ending_stream output }
 {
     match output {
-        Output::Lines => 1,
-        Output::Forwarded => 2,
-        Output::Reasons(wanted) => 1,
+        Output::Lines | Output::Reasons(_) => Stream::Stdout,
+        Output::Forwarded => Stream::Stderr,
     }
 }
 
 // Where that goes which comes before the first record: the opening is output, and what is said of a refused header is an ending.
-pub fn beginning_goes_to(output: Output, is_open: bool) -> i32
+pub fn beginning_goes_to(output: Output, is_open: bool) -> Stream
     ensures { result ≡ beginning_stream output is_open }
 {
     if is_open {
-        return 1;
+        return Stream::Stdout;
     }
     ending_goes_to(output)
 }
@@ -195,8 +204,7 @@ fn wanted_of(output: Output) -> u64
     ensures { result ≡ wanted_of output }
 {
     match output {
-        Output::Lines => 0,
-        Output::Forwarded => 0,
+        Output::Lines | Output::Forwarded => 0,
         Output::Reasons(wanted) => wanted,
     }
 }
