@@ -4,49 +4,56 @@
 
 use outputs::Output;
 use std::env::FillError;
+use std::fmt;
 use std::io::Write;
 use std::rt::Env;
 
-// Says a sentence on standard error, which is the end of it where it cannot be written.
-fn tell(rt: &HostRuntime, sentence: &[u8]) {
-    let _ = rt.stderr().write_all(sentence);
+// Why the program's arguments do not say what is wanted.
+#[derive(Clone, Copy)]
+enum BadArguments {
+    TooMany,
+    NoNumber,
 }
 
-// Whether the program was given the argument of this number. One that is too long for the buffer was given too.
-fn is_given(rt: &HostRuntime, number: usize) -> bool {
-    let mut argument = [0u8; 32];
-    match rt.arg(number, &mut argument) {
-        Err(FillError::NotPresent) => false,
-        _ => true,
+impl fmt::Display for BadArguments {
+    fn fmt<W: fmt::Write>(&self, f: &mut fmt::Formatter<W>) -> fmt::Result {
+        match self {
+            BadArguments::TooMany => write!(
+                f,
+                "more than one argument: give one record number, or none for every dropped record",
+            ),
+            BadArguments::NoNumber => write!(
+                f,
+                "the argument is no record number: give a number from 1 on, or none for every dropped record",
+            ),
+        }
     }
 }
 
-// Says it of the record whose number is the first argument. One that is too long for the buffer is left empty, and so is no number.
-fn explain_one(rt: &HostRuntime) {
-    let mut argument = [0u8; 32];
-    let length = rt.arg(1, &mut argument).unwrap_or(0);
-    let wanted = arguments::record_number(&argument[..length]);
-    if wanted == 0 {
-        tell(
-            rt,
-            b"why: the argument is no record number: give a number from 1 on, or none for every dropped record\n",
-        );
-        return;
+// What is wanted: the one record whose number is the first argument, or every one where there is none. An argument that is too long for the
+// buffer is no number, and was given too.
+fn wanted(rt: &HostRuntime) -> Result<Output, BadArguments> {
+    let mut argument = [0; 32];
+    if !matches!(rt.arg(2, &mut argument), Err(FillError::NotPresent)) {
+        return Err(BadArguments::TooMany);
     }
-    programs::replay(rt, Output::Reasons(wanted));
+    let length = match rt.arg(1, &mut argument) {
+        Ok(length) => length,
+        Err(FillError::NotPresent) => return Ok(Output::Reasons(0)),
+        Err(FillError::TooLong) => return Err(BadArguments::NoNumber),
+    };
+    match arguments::record_number(&argument[..length]) {
+        0 => Err(BadArguments::NoNumber),
+        number => Ok(Output::Reasons(number)),
+    }
 }
 
+// Arguments that do not say what is wanted are told on standard error, and nothing is told where that cannot be written.
 fn main(rt: HostRuntime) {
-    if is_given(&rt, 2) {
-        tell(
-            &rt,
-            b"why: more than one argument: give one record number, or none for every dropped record\n",
-        );
-        return;
+    match wanted(&rt) {
+        Ok(output) => programs::replay(&rt, output),
+        Err(fault) => {
+            let _ = writeln!(rt.stderr(), "why: {fault}");
+        }
     }
-    if is_given(&rt, 1) {
-        explain_one(&rt);
-        return;
-    }
-    programs::replay(&rt, Output::Reasons(0));
 }
