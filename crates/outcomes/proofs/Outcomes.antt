@@ -112,7 +112,6 @@ use Rattle.turns.proofs.beginning_goes_to.Reads as turns_beginning_goes_to
 use Rattle.turns.proofs.ending_goes_to.Reads as turns_ending_goes_to
 use Rattle.turns.proofs.first.Reads as turns_first
 use Rattle.turns.proofs.goes_on.Reads as turns_goes_on
-use Rattle.turns.proofs.has_failed.Reads as turns_has_failed
 use Rattle.turns.proofs.is_early.Reads as turns_is_early
 use Rattle.turns.proofs.is_sound.Reads as turns_is_sound
 use Rattle.turns.proofs.lacks_header.Reads as turns_lacks_header
@@ -409,9 +408,6 @@ turns_first_one κs a x y s t p q = same p q
 
 pub turns_is_early_one : (κs : _) (a : _) → One (turns_is_early.Learnt κs a) (λ x s. x)
 turns_is_early_one κs a x y s t p q = same p q
-
-pub turns_has_failed_one : (κs : _) (a : _) → One (turns_has_failed.Learnt κs a) (λ x s. x)
-turns_has_failed_one κs a x y s t p q = same p q
 
 pub turns_refilled_one : (κs : _) (a : _) → One (turns_refilled.Learnt κs a) (λ x s. x)
 turns_refilled_one κs a x y s t p q = same p q

@@ -1,17 +1,11 @@
 -- What the decisions of a turn come to, case by case.
 -- Assumes nothing.
-use mathlib.Core.Bool.{Bool, true, false, cond, ◌||◌}
+use mathlib.Core.Bool.{Bool, true, false, cond}
 use mathlib.Core.List.{List, []}
-use mathlib.Core.Path.{◌≡◌, refl, sym, ap, ◌∙◌}
-use Prim.Native.Nat.{ℕ, suc, ◌-◌, min}
-use native.Mathlib.Omega.{arith}
-use lib.Dec.{eqb}
-use lib.IntN.{ℤ, pos, negsuc}
+use mathlib.Core.Path.{◌≡◌, sym, ap, ◌∙◌}
+use Prim.Native.Nat.{ℕ, min}
 use lib.ListN.{length, take}
-use borrow.Author.Tests.{ne_eqb}
-use mir.Syntax.{w32}
-use mir.Val.{SFits, of_z}
-use Rattle.laws.proofs.Tests.{cond_at, or_no}
+use Rattle.laws.proofs.Tests.{cond_at}
 use Rattle.capture.specs.declared.Cursor.{Cursor}
 use Rattle.capture.specs.declared.Opened.{Opened}
 use Rattle.capture.specs.declared.Opened.TheVariants.{Refused, Open}
@@ -24,7 +18,7 @@ use Rattle.feeding.specs.declared.Progress.{Progress}
 use Rattle.feeding.specs.Feeding.{replayed_of, fed}
 use Rattle.streams.specs.Streams.{held_of, shifted}
 use Rattle.turns.specs.declared.Stage.{Stage}
-use Rattle.turns.specs.Turns.{begun_anew, is_early, taken_stage, is_sound, ends_refused, ending_due, beginning_of, begun_by, turn_of, turn_taken}
+use Rattle.turns.specs.Turns.{begun_anew, taken_stage, is_sound, ends_refused, ending_due, beginning_of, begun_by, turn_of, turn_taken}
 
 -- ---- the end
 -- bytes that are put on a condition, and none else

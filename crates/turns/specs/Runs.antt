@@ -1,6 +1,6 @@
 -- A whole run of a program, from the first byte of standard input: what stands on standard output at its end, and what was said beside it.
 -- Assumes nothing.
-use Rattle.std.specs.Prelude.{Bool, true, false, cond, List, [], ◌∷◌, ◌++◌, ℕ, zero, suc, min, ◌+◌, ◌-◌, ◌<◌, eqb, leb, length, take, drop}
+use Rattle.std.specs.Prelude.{Bool, true, false, cond, List, [], ◌∷◌, ◌++◌, ℕ, zero, suc, min, ◌+◌, ◌-◌, ◌<◌, leb, length, take, drop}
 use Rattle.words.specs.Words.{stored}
 use Rattle.capture.specs.declared.Opened.{Opened}
 use Rattle.capture.specs.declared.Opened.TheVariants.{Refused, Open}
