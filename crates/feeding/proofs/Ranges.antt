@@ -1,7 +1,7 @@
 -- What the gateway answers and leaves is in the ranges of its parts' types, wherever the counts that it is lent are: what a line and a block
 -- are made of needs no premise.
 -- Assumes nothing.
-use mathlib.Core.Bool.{Bool, true, false, cond, ◌||◌}
+use mathlib.Core.Bool.{Bool, true, false, cond}
 use mathlib.Core.List.{List, [], ◌∷◌, map}
 use mathlib.Core.Path.{◌≡◌, refl, sym, subst}
 use Prim.Native.Nat.{ℕ, zero, suc, ◌+◌, ◌*◌, ◌^◌, ◌≤◌, ◌<◌}
@@ -16,26 +16,25 @@ use Rattle.words.specs.Words.{two_at}
 use Rattle.words.specs.Layouts.{Bytes, two, four}
 use Rattle.words.proofs.Layouts.{in_range}
 use Rattle.settings.specs.declared.Limits.{Limits}
-use Rattle.settings.specs.Settings.{bad_limits}
 use Rattle.permute.proofs.Inverse.{D-lt}
 use Rattle.places.specs.declared.Place.{Place}
 use Rattle.places.specs.declared.Placing.{Placing}
 use Rattle.places.specs.Places.{address_of}
 use Rattle.sides.specs.declared.Direction.{Direction}
 use Rattle.sides.specs.declared.Direction.TheVariants.{FromCell, FromPlant, NotOurs}
-use Rattle.sides.specs.Lists.{bad_list}
 use Rattle.sides.proofs.Winners.{sized}
 use Rattle.packet.specs.declared.Header.{Header}
-use Rattle.packet.specs.Header.{wrong, protocol, later, usable, needed, header_length, header_refusal, port_at, transport_of, header_of}
+use Rattle.packet.specs.Header.{protocol, later, header_length, port_at, transport_of, header_of}
 use Rattle.packet.specs.Kinds.{ported}
 use Rattle.records.specs.Records.{marks_of, is_unmarked}
 use Rattle.counts.specs.Counts.{larger, smaller, lowered_by, raised_by, decayed_by}
 use Rattle.counts.proofs.Counts.{fell}
-use Rattle.std.specs.Prelude.{Option, Some, None}
+use Rattle.std.specs.Prelude.{Option, Some, None, Result, Ok}
+use Rattle.refused.specs.declared.Refusal.{Refusal}
+use Rattle.refused.specs.Refused.{answer_unless}
 use Rattle.entries.specs.Entries.{line_of, lacks_line, own_way, count_in, count_of, Written, written_of, written}
 use Rattle.entries.proofs.Readback.{cases}
 use Rattle.tables.specs.Tables.{Tables}
-use Rattle.tables.specs.Sizes.{bad_sizes}
 use Rattle.tables.specs.Clock.{time_passed}
 use Rattle.verdicts.specs.declared.Verdict.{Verdict}
 use Rattle.verdicts.specs.declared.Verdict.TheVariants.{Uncounted, CreditOfOne, CreditOfTwo, FreshContact, Hygiene, Blocked}
@@ -49,10 +48,9 @@ use Rattle.rulings.specs.Rules.{Rules, slot_rule, rules_of}
 use Rattle.rulings.specs.Rulings.{count_written, counted_by, verdict_by, ruling_of}
 use Rattle.lines.proofs.Whole.{InRange}
 use Rattle.explanations.proofs.Short.{DropSized, ExplanationSized}
-use Rattle.refusals.specs.Refusals.{first_refusal, early_refusal}
 use Rattle.gateway.specs.Packets.{Outcome, spot_of, record_met, count_met, ruling_at, entered, replacement_of, ours, direction_in, by_direction}
-use Rattle.gateway.specs.Calls.{State, After, number_or, by_sizes, unless_refused, onward, packet_refusal, accepted, judged}
-use Rattle.gateway.specs.Why.{met_in, drop_of, why_ours, why_by_direction, unless_refused_by, why_of}
+use Rattle.gateway.specs.Calls.{State, After, unless_refused, onward, packet_refusal, accepted, judged}
+use Rattle.gateway.specs.Why.{met_in, drop_of, why_ours, why_by_direction, why_of}
 
 -- ---- lists each of whose elements is so
 module _ {A : Type 0} (P : A → Type 0) where
@@ -181,17 +179,17 @@ module _ (limits : Limits) (floor_short : Short limits.floor) where
 
   -- an address that is recovered has 32 bits
   judged_short : (keys : List ℕ) (lines line : ℕ) (gone : Option ℕ) (verdict : Verdict) (count : ℤ) → Short count
-      → InRange (answer.Judged verdict count (replacement_of keys lines line gone))
+      → InRange (Ok (answer.Judged verdict count (replacement_of keys lines line gone)))
   unfolding address_of
   judged_short keys lines line None verdict count c = c
   judged_short keys lines line (Some tag) verdict count c = (c, D-lt keys _ (omega arith))
 
-  pub record Ranged (after : After Answer) : Type 0 where
+  pub record Ranged (after : After (Result Answer Refusal)) : Type 0 where
     pub in_its_range : InRange after.answer
     pub counts_short : All Short after.state.tables.counts
 
   record Fits (after : Outcome) : Type 0 where
-    told : InRange after.answer
+    told : InRange (Ok after.answer)
     left : All Short after.tables.counts
 
   ours_fit : (placing : Placing) (h : Header) (from_plant : Bool) (before : Tables) → All Short before.counts → Fits (ours (rules_of limits) placing h from_plant before)
@@ -218,50 +216,13 @@ module _ (limits : Limits) (floor_short : Short limits.floor) where
   unfolding time_passed
   onward_short time before all = all_mapped Short (decayed_by _) (decayed_short _) before.tables.counts all
 
--- ---- refusals have one digit
-or_few : (n m : ℕ) → n < 10 → m < 10 → number_or n m < 10
-or_few zero m h g = g
-or_few (suc n) m h g = h
-
-module _ (limits : Limits) (cell plant : List ℕ) (time : ℕ) (bytes : List ℕ) (before : State) where
-  early_few : (a b c d : Bool) → first_refusal ((1, a) ∷ (2, b) ∷ (3, c) ∷ (4, d) ∷ []) < 10
-  early_few true b c d = omega arith
-  early_few false true c d = omega arith
-  early_few false false true d = omega arith
-  early_few false false false true = omega arith
-  early_few false false false false = omega arith
-
-  header_few : (a b c d : Bool) → cond a 5 (cond b 6 (cond c 5 (cond d 5 0))) < 10
-  header_few true b c d = omega arith
-  header_few false true c d = omega arith
-  header_few false false true d = omega arith
-  header_few false false false true = omega arith
-  header_few false false false false = omega arith
-
-  refusal_few : packet_refusal limits cell plant time bytes before < 10
-  unfolding early_refusal header_refusal
-  refusal_few =
-      or_few
-      (by_sizes (early_refusal limits) before.tables cell plant before.clock time)
-      (header_refusal bytes)
-      (early_few
-      (bad_limits limits)
-      (by_sizes bad_sizes before.tables)
-      (bad_list cell || bad_list plant)
-      (ltb time before.clock))
-      (header_few
-      (ltb (length bytes) 20)
-      (wrong bytes)
-      (ltb (length bytes) (header_length bytes))
-      (ltb (usable bytes) (header_length bytes + needed (protocol bytes) (later bytes))))
-
 -- ---- the call
 module _ (limits : Limits) (floor_short : Short limits.floor) (cell plant : List ℕ) (time : ℕ) (bytes : List ℕ) (before : State)
     (all : All Short before.tables.counts) where
-  unless_fits : (after : After Answer) → Ranged limits floor_short after → (number : ℕ) → number < 10
-      → Ranged limits floor_short (unless_refused answer.Refused number before after)
-  unless_fits after fits zero few = fits
-  unless_fits after fits (suc n) few = record { in_its_range = omega (arith, few); counts_short = all }
+  unless_fits : (after : After Answer) → InRange (Ok after.answer) → All Short after.state.tables.counts → (refusal : Option Refusal)
+      → Ranged limits floor_short (unless_refused refusal before after)
+  unless_fits after told left None = record { in_its_range = told; counts_short = left }
+  unless_fits after told left (Some refusal) = record { in_its_range = tt; counts_short = all }
 
   pub judged_fits : Ranged limits floor_short (judged (rules_of limits) limits cell plant time bytes before)
   unfolding judged
@@ -269,8 +230,7 @@ module _ (limits : Limits) (floor_short : Short limits.floor) (cell plant : List
       let h : Header = header_of bytes in
       let done = all_fit limits floor_short before.placing h (direction_in cell plant h) _ (onward_short limits floor_short time before all) in
       unless_fits (accepted (rules_of limits) limits h (direction_in cell plant h) time before)
-      (record { in_its_range = done.told; counts_short = done.left })
-      (packet_refusal limits cell plant time bytes before) (refusal_few limits cell plant time bytes before)
+      done.told done.left (packet_refusal limits cell plant time bytes before)
 
 -- ---- the question why
 -- a part of a list of bytes is one
@@ -320,7 +280,7 @@ module _ (limits : Limits) (floor_short : Short limits.floor) (threshold-few : l
           plant_entry = sized cell plant cell_bytes plant_bytes (header_of l).destination cell-few plant-few;
         }
 
-    met_fits : ExplanationSized (why_ours (rules_of limits) placing cell plant (header_of l) from_plant tables)
+    met_fits : ExplanationSized (Ok (why_ours (rules_of limits) placing cell plant (header_of l) from_plant tables))
     unfolding why_ours
     met_fits = go verdict (is_forwarded verdict)
       where
@@ -331,14 +291,14 @@ module _ (limits : Limits) (floor_short : Short limits.floor) (threshold-few : l
             (count_met (spot_of slot_rule placing (header_of l) from_plant (length tables.records) (length tables.tags)) tables)
 
         go : (verdict : Verdict) (forwarded : Bool)
-            → ExplanationSized (cond forwarded (why.Forwarded verdict)
+            → ExplanationSized (Ok (cond forwarded (why.Forwarded verdict)
             (why.Dropped (drop_of rules cell plant (header_of l) verdict
-            (met_in (spot_of slot_rule placing (header_of l) from_plant (length tables.records) (length tables.tags)) tables))))
+            (met_in (spot_of slot_rule placing (header_of l) from_plant (length tables.records) (length tables.tags)) tables)))))
         go verdict true = tt
         go verdict false = drop_fits verdict
 
   explained_fits : (placing : Placing) (l : List ℕ) → Bytes l → (direction : Direction) (tables : Tables) → All Short tables.counts
-      → ExplanationSized (why_by_direction (rules_of limits) placing cell plant (header_of l) direction tables)
+      → ExplanationSized (Ok (why_by_direction (rules_of limits) placing cell plant (header_of l) direction tables))
   unfolding why_by_direction
   explained_fits placing l bytes FromCell tables all = met_fits placing l bytes false tables all
   explained_fits placing l bytes FromPlant tables all = met_fits placing l bytes true tables all
@@ -348,13 +308,13 @@ module _ (limits : Limits) (floor_short : Short limits.floor) (threshold-few : l
       → ExplanationSized (why_of (rules_of limits) limits cell plant time l before)
   unfolding why_of
   why_fits time l bytes before all =
-      unless (packet_refusal limits cell plant time l before) (refusal_few limits cell plant time l before)
+      unless (packet_refusal limits cell plant time l before)
     where
       told : Explanation
       told =
           why_by_direction (rules_of limits) before.placing cell plant (header_of l) (direction_in cell plant (header_of l))
           (onward (rules_of limits).point limits time before).tables
 
-      unless : (number : ℕ) → number < 10 → ExplanationSized (unless_refused_by number told)
-      unless zero few = explained_fits before.placing l bytes (direction_in cell plant (header_of l)) _ (onward_short limits floor_short time before all)
-      unless (suc n) few = omega (arith, few)
+      unless : (refusal : Option Refusal) → ExplanationSized (answer_unless refusal told)
+      unless None = explained_fits before.placing l bytes (direction_in cell plant (header_of l)) _ (onward_short limits floor_short time before all)
+      unless (Some refusal) = tt
