@@ -1,19 +1,9 @@
--- Tests and lists told apart: what equal ones have in common, and which are never equal.
+-- Lists told apart: what equal ones have in common, and which are never equal.
 -- Assumes nothing.
-use mathlib.Core.Bool.{Bool, true, false, not}
 use mathlib.Core.List.{List, [], ◌∷◌}
-use Rattle.std.specs.Prelude.{None, Some}
-use mathlib.Core.Path.{◌≡◌, refl}
+use mathlib.Core.Path.{◌≡◌}
 use Prim.Native.Nat.{ℕ}
 use native.Mathlib.Omega.{arith}
-use lib.IntN.{ℤ}
-
-pub twice_not : (t : Bool) → not (not t) ≡ t
-twice_not true = refl
-twice_not false = refl
-
-pub not_some : {d : ℤ} → None ≡ Some d → ⊥
-not_some e = let z : ◌≡◌ {A = ℕ} 0 1 = cc in omega arith
 
 pub same_head : {A : Type 0} {x y : A} {xs ys : List A} → x ∷ xs ≡ y ∷ ys → x ≡ y
 same_head e = cc

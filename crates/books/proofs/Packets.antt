@@ -1,6 +1,6 @@
 -- A packet keeps the invariant, and is answered rightly.
 -- Assumes nothing.
-use mathlib.Core.Bool.{Bool, true, false, not, ◌&&◌, cond, and-false, and-true}
+use mathlib.Core.Bool.{Bool, true, false, not, ◌&&◌, cond, and-false, and-true, not-not}
 use mathlib.Core.List.{List, ◌∷◌}
 use mathlib.Core.Logic.{◌≢◌, inl}
 use mathlib.Core.Path.{◌≡◌, refl, sym, ap, subst, ◌∙◌}
@@ -24,6 +24,7 @@ use Rattle.places.specs.Places.{place_of}
 use Rattle.records.specs.Records.{marks_of, is_unmarked, is_cold}
 use Rattle.counts.specs.Counts.{is_blocked}
 use Rattle.std.specs.Prelude.{None, Option, Some, Ok, Err}
+use Rattle.std.proofs.lemmas.Option.{none-some}
 use Rattle.refused.specs.declared.Refusal.{Refusal}
 use Rattle.entries.specs.Entries.{Written, written_of, written}
 use Rattle.entries.proofs.Readback.{same_lengths}
@@ -43,7 +44,6 @@ use Rattle.gateway.proofs.Steps.{first_none}
 use Rattle.history.specs.Runs.{Site, Start, Event, judged_at}
 use Rattle.history.specs.Told.{judgement_by, one_or_none}
 use Rattle.history.specs.Fresh.{Ours, is_from_plant, ours_of, cell_address, forwards, credit_of, replacements, slot_for, forwarded_on, credits, is_fresh, fresh_contacts}
-use Rattle.books.proofs.Apart.{twice_not, not_some}
 use Rattle.books.proofs.Account.{StaysOrNamed, reaches, under, recast, on_named, holds_blocked}
 use Rattle.books.proofs.Slots.{told_of, is_four, Ruled, ruled, forwarded_record, dropped_record, Kept, kept_forwarded}
 use Rattle.books.proofs.Writes.{count_at, own_count, other_count}
@@ -192,7 +192,7 @@ module _ (x : Setup) (start : Start) where
     fresh_is : fresh ≡ is_four verdict
     fresh_is =
         ap (λ (t : Bool). forwards told && (not packet.from_plant && not t)) (sym here.mark)
-        ∙ ap (λ (t : Bool). forwards told && (not packet.from_plant && t)) (twice_not (is_cold byte))
+        ∙ ap (λ (t : Bool). forwards told && (not packet.from_plant && t)) (not-not (is_cold byte))
         ∙ rule.four
 
     -- ---- its cell address's books, and the others'
@@ -213,7 +213,7 @@ module _ (x : Setup) (start : Start) where
       where
         go : (t : Bool) → NoLower count (cond t (r.attempt packet.header count) None)
         go true d e = x.ok.attempt_up packet.header count d e
-        go false d e = absurd (not_some e)
+        go false d e = absurd (none-some _ e)
 
     own_books : BooksWith x start cell s.clock (counted_by count new).count (F cell h + cond (is_four verdict) (r.weight packet.header) 0)
         (H cell h + credit_of told) (R cell h)

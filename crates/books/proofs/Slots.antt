@@ -1,7 +1,7 @@
 -- One slot: its stored record is marked exactly if the slot is live by the history, and its age is then the minute boundaries since the
 -- last packet forwarded on it.
 -- Assumes nothing.
-use mathlib.Core.Bool.{Bool, true, false, not, ◌&&◌, ◌||◌, cond}
+use mathlib.Core.Bool.{Bool, true, false, not, ◌&&◌, ◌||◌, cond, and-false, or-true, not-not}
 use mathlib.Core.List.{List, [], ◌∷◌}
 use mathlib.Core.Path.{◌≡◌, refl, sym, ap, subst, ◌∙◌}
 use Prim.Native.Nat.{ℕ, zero, suc, ◌+◌, ◌≤◌, ◌<◌}
@@ -22,7 +22,6 @@ use Rattle.verdicts.specs.declared.Verdict.{Verdict}
 use Rattle.verdicts.specs.declared.Verdict.TheVariants.{Uncounted, CreditOfOne, CreditOfTwo, FreshContact, Hygiene, Blocked}
 use Rattle.verdicts.specs.Verdicts.{number_of, is_forwarded, is_udp, is_opening, is_syn_ack, is_closing, is_counted, from_the_plant, from_the_cell, from_blocked_cell, verdict_of, plant_begins, marks_after, record_after}
 use Rattle.history.specs.Fresh.{Ours, tells, forwards, Forwarded, closes_from_plant, is_live}
-use Rattle.books.proofs.Apart.{twice_not}
 
 -- ---- verdicts: 4 is the only one that forwards a cell packet on a record with neither mark
 -- a verdict's number, as an answer tells it
@@ -124,10 +123,6 @@ made marks e m =
       young = λ h. age_back marks 0 (omega arith);
     }
 
-or_last : (s : Bool) → (s || true) ≡ true
-or_last true = refl
-or_last false = refl
-
 abbrev marks_by : Bool → Bool → Marks
 marks_by P C = record { plant = P; cell = C }
 
@@ -146,8 +141,8 @@ keeps_cell false false = refl
 
 renewed : (from_plant P C closing counted : Bool) (byte : ℕ) → is_cold byte ≡ not (P || C) → ((not from_plant && not (P || C)) ≡ true → counted ≡ true)
     → Renewed (not (from_plant && closing) || (P || C)) (record_by from_plant P C closing counted byte)
-renewed true true C closing counted byte c f = made (marks_after true (marks_by true C) (counted || false)) refl (or_last (not closing))
-renewed true false true closing counted byte c f = made (marks_after true (marks_by false true) (counted || false)) (keeps_cell true (counted || false)) (or_last (not closing))
+renewed true true C closing counted byte c f = made (marks_after true (marks_by true C) (counted || false)) refl (or-true (not closing))
+renewed true false true closing counted byte c f = made (marks_after true (marks_by false true) (counted || false)) (keeps_cell true (counted || false)) (or-true (not closing))
 renewed true false false true counted byte c f = record { mark = ap not c; young = λ h. true_is_not_false c h }
 renewed true false false false counted byte c f = made (marks_after true (marks_by false false) (counted || true)) (begun counted) refl
   where
@@ -169,7 +164,7 @@ module _ (from_plant blocked : Bool) (kind : Kind) (byte : ℕ) where
   forwarded_record f =
       rw (by_number verdict ∙ f)
       (subst (λ (x : Bool). Renewed (not (from_plant && is_closing kind) || x) (record_by from_plant (plant_seen byte) (cell_seen byte) (is_closing kind) (is_counted verdict) byte))
-      (sym (twice_not (plant_seen byte || cell_seen byte)))
+      (sym (not-not (plant_seen byte || cell_seen byte)))
       (renewed from_plant (plant_seen byte) (cell_seen byte) (is_closing kind) (is_counted verdict) byte refl
       (λ e. (ruled from_plant blocked (marks_of byte) kind).four_counts (sym (ruled from_plant blocked (marks_of byte) kind).four ∙ and_yes f e))))
 
@@ -230,11 +225,7 @@ module _ (dconn start b0 : ℕ) (held : ℕ → Bool) where
       none = passed_none 60 start start (omega arith)
 
       go : (cold : Bool) → is_cold b0 ≡ cold → not (is_cold b0) ≡ (leb (age_of b0 + multiples_passed 60 start start) dconn && not (is_cold b0))
-      go true e = rw e (sym (never (leb (age_of b0 + multiples_passed 60 start start) dconn)))
-        where
-          never : (t : Bool) → (t && false) ≡ false
-          never true = refl
-          never false = refl
+      go true e = rw e (sym (and-false (leb (age_of b0 + multiples_passed 60 start start) dconn)))
       go false e = sym (ap (λ (t : Bool). t && not (is_cold b0)) (le-leb (age_of b0 + multiples_passed 60 start start) dconn (omega (arith, none, young e))))
 
   -- the clock goes on

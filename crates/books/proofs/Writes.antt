@@ -21,6 +21,7 @@ use Rattle.places.specs.Places.{place_of, address_of}
 use Rattle.places.proofs.Places.{line_lt, recovered, one_address}
 use Rattle.counts.specs.Counts.{is_empty}
 use Rattle.std.specs.Prelude.{Option, Some, None}
+use Rattle.std.proofs.lemmas.Option.{same_Some}
 use Rattle.entries.specs.Entries.{lacks_line, count_of, Written, written}
 use Rattle.entries.proofs.Readback.{read_back, others_keep, other_lines_keep, nothing_is_no_tag}
 use Rattle.entries.proofs.Decay.{by_dn}
@@ -99,14 +100,11 @@ module _ {keys : List ℕ} (k : Keys keys) (lines a : ℕ) (is : lines ≡ 2 ^ a
                 inl (others_keep (placed writer).line (placed writer).tag count tags counts (placed other).tag (tags_apart e) (λ q. nothing_is_no_tag (sym told ∙ q)))
             by_replaced e (Some t) told = by_tag (ℕ_discrete t (placed other).tag)
               where
-                same_tag : {x y : ℕ} → Some x ≡ Some y → x ≡ y
-                same_tag q = cc
-
                 by_tag : Dec (t ≡ (placed other).tag) → Kept (placed writer).line
                 by_tag (yes same) =
                     inr (is_named e t told same, gone_after tags counts once (placed writer).line (placed writer).tag count (placed other).tag (told ∙ ap Some same))
                 by_tag (no ne) =
-                    inl (others_keep (placed writer).line (placed writer).tag count tags counts (placed other).tag (tags_apart e) (λ q. ne (same_tag (sym told ∙ q))))
+                    inl (others_keep (placed writer).line (placed writer).tag count tags counts (placed other).tag (tags_apart e) (λ q. ne (same_Some t (placed other).tag (sym told ∙ q))))
 
             by_line : Dec ((placed other).line ≡ (placed writer).line) → Kept (placed other).line
             by_line (yes e) = subst Kept (sym e) (by_replaced e wrote.replaced refl)

@@ -11,7 +11,7 @@ use native.Mathlib.Omega.{arith}
 use lib.Dec.{leb}
 use borrow.Author.Tests.{leb-true, le-leb, not-true}
 use Rattle.std.specs.Prelude.{Option}
-use Rattle.laws.proofs.Tests.{true_is_not_false, is_false, and_left, and_right, and_yes}
+use Rattle.laws.proofs.Tests.{true_is_not_false, is_false, and_left, and_right, and_yes, or_yes}
 use Rattle.tables.specs.Clock.{multiples_passed}
 use Rattle.gateway.specs.Calls.{State}
 use Rattle.history.specs.Runs.{Site, Start, started_cold, Event}
@@ -52,16 +52,12 @@ module _ (dconn : ℕ) where
             from_it_to_now = (omega (arith, gap), l.from_it_to_now);
           }
 
-  or_later : (s : Bool) {t : Bool} → t ≡ true → (s || t) ≡ true
-  or_later true e = refl
-  or_later false e = e
-
   reached : (now : ℕ) (newer : List Forwarded) (it : Forwarded) (older : List Forwarded) → closes_from_plant it.packet ≡ false
       → NoLongGap dconn now (newer ++ (it ∷ [])) → test now (newer ++ (it ∷ older)) ≡ true
   reached now [] it older c n =
       and_yes (le-leb _ dconn (omega (arith, n.0))) (ap (λ (b : Bool). not b || test it.time older) c)
   reached now (last ∷ newer) it older c n =
-      and_yes (le-leb _ dconn (omega (arith, n.0))) (or_later (not (closes_from_plant last.packet)) (reached last.time newer it older c n.1))
+      and_yes (le-leb _ dconn (omega (arith, n.0))) (or_yes (not (closes_from_plant last.packet)) (reached last.time newer it older c n.1))
 
   pub live_is : (now : ℕ) (forwarded : List Forwarded) → (test now forwarded ≡ true) ↔ Live dconn now forwarded
   live_is now forwarded =

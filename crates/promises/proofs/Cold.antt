@@ -10,6 +10,7 @@ use lib.IntN.{pos}
 use lib.ListN.{length, get_or, replicate, length-replicate}
 use lib.Pow.{pow_pos}
 use Rattle.std.specs.Prelude.{Option}
+use Rattle.std.proofs.lemmas.Option.{none-some}
 use Rattle.refused.specs.declared.Refusal.{Refusal}
 use Rattle.laws.specs.Signed.{minus}
 use Rattle.laws.proofs.Signed.{le_in, one_part}
@@ -33,7 +34,6 @@ use Rattle.refusals.proofs.Tests.{good_start}
 use Rattle.gateway.specs.Calls.{State, after_call, unless_refused, unstarted, cold_state, started}
 use Rattle.history.specs.Runs.{started_cold, Call, bytes_to_judge}
 use Rattle.history.specs.Fresh.{ours_of}
-use Rattle.books.proofs.Apart.{not_some}
 use Rattle.books.proofs.Lawful.{Lawful}
 use Rattle.books.proofs.Slots.{held_by}
 use Rattle.books.proofs.Invariant.{Setup, count_in, Sound, Good}
@@ -73,7 +73,7 @@ rules_lawful limits r =
       weight_le = λ h. omega arith;
       floor_low = omega arith;
       floor_near = omega arith;
-      attempt_up = λ h c d e. absurd (not_some e);
+      attempt_up = λ h c d e. absurd (none-some _ e);
       slot_lt = λ placing h from_plant records p. slot_lt placing.keys _ _ _ records p;
     }
 
