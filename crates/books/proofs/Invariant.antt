@@ -10,7 +10,7 @@ use native.Mathlib.Nat.{le_trans, add-mul, zero-mul, add-zero}
 use native.Mathlib.Omega.{arith}
 use lib.IntN.{ℤ}
 use lib.ListN.{length, get_or, length-map, get_or-map}
-use Rattle.std.specs.Prelude.{Option, None, Some}
+use Rattle.std.specs.Prelude.{Option, None, Some, unwrap_or}
 use Rattle.laws.specs.Times.{times_in}
 use Rattle.laws.proofs.Signed.{up, dn}
 use Rattle.permute.proofs.Inverse.{Keys}
@@ -26,7 +26,7 @@ use Rattle.rulings.specs.Rules.{Rules}
 use Rattle.gateway.specs.Calls.{State, onward}
 use Rattle.history.specs.Runs.{Site, Start, Event}
 use Rattle.history.specs.Told.{JudgedPacket, told}
-use Rattle.history.specs.Fresh.{ours_of, cell_address, tells, Forwarded, replacements, or_before, packet_in, forwarded_by, forwarded_on, credit_by, credits, is_fresh, fresh_by, fresh_contacts}
+use Rattle.history.specs.Fresh.{ours_of, cell_address, tells, Forwarded, replacements, packet_in, forwarded_by, forwarded_on, credit_by, credits, is_fresh, fresh_by, fresh_contacts}
 use Rattle.books.proofs.Account.{Holds, at_start, recast, on_named, on_decay}
 use Rattle.books.proofs.Slots.{held_by, Kept, kept_start, kept_onward}
 use Rattle.books.proofs.Lawful.{Lawful}
@@ -218,13 +218,13 @@ module _ (x : Setup) (start : Start) where
   -- all of it: the invariant, the clock that the call leaves, and its answer
   pub record Stepped (clock : ℕ) (h : List Event) (s : State) (event : Event) : Type 0 where
     pub run : Run s (event ∷ h)
-    pub time : s.clock ≡ or_before (told event).clock clock
+    pub time : s.clock ≡ unwrap_or (told event).clock clock
     pub rightly : Rightly h (told event).judged
 
   -- A quiet event judges no packet of ours. What was true of the state before it, or at its time, stays true after it: it adds nothing to
   -- any slot or account. This is one fact for every sort of call.
   pub stepped_quiet : {clock : ℕ} {s : State} {h : List Event} → Run s h → (event : Event) → (told event).judged ≡ None
-      → s.clock ≡ or_before (told event).clock clock → Stepped clock h s event
+      → s.clock ≡ unwrap_or (told event).clock clock → Stepped clock h s event
   stepped_quiet {s = s} {h = h} i event quiet time =
       record {
         run = run_told event quiet i.late i.placing_same i.sound i.slots (λ address q.

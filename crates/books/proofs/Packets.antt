@@ -23,7 +23,7 @@ use Rattle.places.specs.declared.Placing.{Placing}
 use Rattle.places.specs.Places.{place_of}
 use Rattle.records.specs.Records.{marks_of, is_unmarked, is_cold}
 use Rattle.counts.specs.Counts.{is_blocked}
-use Rattle.std.specs.Prelude.{None, Option, Some, Ok, Err}
+use Rattle.std.specs.Prelude.{None, Option, Some, option_to_list, Ok, Err}
 use Rattle.std.proofs.lemmas.Option.{none-some}
 use Rattle.refused.specs.declared.Refusal.{Refusal}
 use Rattle.entries.specs.Entries.{Written, written_of, written}
@@ -42,7 +42,7 @@ use Rattle.refusals.proofs.Tests.{packet_in_order}
 use Rattle.gateway.specs.Calls.{State, After, unless_refused, packet_refusal, accepted, judged}
 use Rattle.gateway.proofs.Steps.{first_none}
 use Rattle.history.specs.Runs.{Site, Start, Event, judged_at}
-use Rattle.history.specs.Told.{judgement_by, one_or_none}
+use Rattle.history.specs.Told.{judgement_by}
 use Rattle.history.specs.Fresh.{Ours, is_from_plant, ours_of, cell_address, forwards, credit_of, replacements, slot_for, forwarded_on, credits, is_fresh, fresh_contacts}
 use Rattle.books.proofs.Account.{StaysOrNamed, reaches, under, recast, on_named, holds_blocked}
 use Rattle.books.proofs.Slots.{told_of, is_four, Ruled, ruled, forwarded_record, dropped_record, Kept, kept_forwarded}
@@ -126,7 +126,7 @@ module _ (x : Setup) (start : Start) where
     gone_by n = replacement_of keys (lines_in s) place.line (wrote n).replaced
 
     abbrev named : ℕ → Option ℤ → ℕ
-    named address n = times_in address (one_or_none (gone_by n))
+    named address n = times_in address (option_to_list (gone_by n))
 
     abbrev byte_after : ℕ
     byte_after = record_after packet.from_plant packet.header.transport.kind verdict byte

@@ -7,7 +7,7 @@ use mathlib.Core.Path.{◌≡◌, refl, ap, subst, ◌∙◌}
 use Prim.Native.Nat.{ℕ, zero, suc, ◌+◌, ◌*◌, ◌^◌, ◌≤◌, ◌<◌, min}
 use lib.Dec.{eqb}
 use lib.ListN.{length}
-use Rattle.std.specs.Prelude.{Option, None, Some, Result, Ok, Err}
+use Rattle.std.specs.Prelude.{Option, None, Some, unwrap_or, Result, Ok, Err}
 use Rattle.refused.specs.declared.Refusal.{Refusal}
 use Rattle.laws.proofs.Signed.{up, dn}
 use Rattle.tables.specs.Clock.{multiples_passed}
@@ -18,7 +18,7 @@ use Rattle.refusals.proofs.Tests.{time_in_order}
 use Rattle.gateway.specs.Calls.{State, After, after_call, unless_refused, time_refusal_at, passed}
 use Rattle.history.specs.Runs.{Site, Start, Call, packet_at, time_alone, why_at, bytes_to_judge, Event, judged_at, passed_at, explained_at, state_after, event_of, left_by, history}
 use Rattle.history.specs.Told.{JudgedPacket, judgement_by, told}
-use Rattle.history.specs.Fresh.{ours_of, cell_address, tells, replacements, or_before, clock_after, packet_in, decays, credits, is_fresh, fresh_by, fresh_contacts}
+use Rattle.history.specs.Fresh.{ours_of, cell_address, tells, replacements, clock_after, packet_in, decays, credits, is_fresh, fresh_by, fresh_contacts}
 use Rattle.books.proofs.Apart.{same_head, same_tail, not_nil}
 use Rattle.books.proofs.Account.{holds_bound}
 use Rattle.books.proofs.Invariant.{Setup, timed, clock_at, Fit, Good, Run, run_start, run_onward, Enough, Rightly, Stepped, stepped_quiet}
@@ -96,7 +96,7 @@ module _ (x : Setup) (start : Start) where
     unfolding left_by history
     clock_is [] fit = refl
     clock_is (call ∷ calls) fit =
-        (last call calls fit.0 fit.1).time ∙ ap (or_before (told (event_of site (leaves calls) call)).clock) (clock_is calls fit.1)
+        (last call calls fit.0 fit.1).time ∙ ap (unwrap_or (told (event_of site (leaves calls) call)).clock) (clock_is calls fit.1)
 
     -- what was answered to each call, by what came before it
     rightly_at : (calls : List Call) → AllFit x calls → (newer older : List Event) (event : Event)

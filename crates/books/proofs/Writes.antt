@@ -20,14 +20,13 @@ use Rattle.places.specs.declared.Place.{Place}
 use Rattle.places.specs.Places.{place_of, address_of}
 use Rattle.places.proofs.Places.{line_lt, recovered, one_address}
 use Rattle.counts.specs.Counts.{is_empty}
-use Rattle.std.specs.Prelude.{Option, Some, None}
+use Rattle.std.specs.Prelude.{Option, Some, None, option_to_list}
 use Rattle.std.proofs.lemmas.Option.{same_Some}
 use Rattle.entries.specs.Entries.{lacks_line, count_of, Written, written}
 use Rattle.entries.proofs.Readback.{read_back, others_keep, other_lines_keep, nothing_is_no_tag}
 use Rattle.entries.proofs.Decay.{by_dn}
 use Rattle.entries.proofs.Once.{Once, gone_after}
 use Rattle.gateway.specs.Packets.{replacement_of}
-use Rattle.history.specs.Told.{one_or_none}
 use Rattle.books.proofs.Account.{StaysOrNamed}
 
 -- a list of one number has it once
@@ -66,7 +65,7 @@ module _ {keys : List ℕ} (k : Keys keys) (lines a : ℕ) (is : lines ≡ 2 ^ a
 
       -- the address that the answer names as replaced, if any
       abbrev named_by : Option ℕ → List ℕ
-      named_by replaced = one_or_none (replacement_of keys lines (placed writer).line replaced)
+      named_by replaced = option_to_list (replacement_of keys lines (placed writer).line replaced)
 
       module _ (once : Once tags counts) (other : ℕ) (small : other < 2 ^ 32) (writer-small : writer < 2 ^ 32) (apart : other ≢ writer) where
         abbrev named : ℕ

@@ -2,7 +2,7 @@
 -- answers, and from nothing that is stored. Each is counted over what the events tell. Where a history does not begin with a cold start,
 -- what was live then is the start's (`held`).
 -- Assumes nothing.
-use Rattle.std.specs.Prelude.{Bool, true, false, not, ◌&&◌, ◌||◌, cond, List, [], ◌∷◌, ◌++◌, ◌≡◌, ℕ, ◌+◌, ◌≤◌, leb, eqb, Option, None, Some}
+use Rattle.std.specs.Prelude.{Bool, true, false, not, ◌&&◌, ◌||◌, cond, List, [], ◌∷◌, ◌++◌, ◌≡◌, ℕ, ◌+◌, ◌≤◌, leb, eqb, Option, None, Some, unwrap_or}
 use Rattle.laws.specs.Times.{times_in}
 use Rattle.packet.specs.declared.Header.{Header}
 use Rattle.packet.specs.Header.{header_of}
@@ -84,13 +84,9 @@ replacements address [] = 0
 replacements address (event ∷ before) = replacements address before + times_in address (told event).lost
 
 -- ---- the clock: the time that it was last set to, and before that the start's
-abbrev pub or_before : Option ℕ → ℕ → ℕ
-or_before None before = before
-or_before (Some time) before = time
-
 abbrev pub clock_after : ℕ → List Event → ℕ
 clock_after began [] = began
-clock_after began (event ∷ before) = or_before (told event).clock (clock_after began before)
+clock_after began (event ∷ before) = unwrap_or (told event).clock (clock_after began before)
 
 module _ (site : Site) where
   abbrev pub slot_for : Ours → ℕ

@@ -1,7 +1,7 @@
 -- What an event tells, by document 01's numbers. The clock, the life of a slot, F, D, H and R are made of what events tell, and never ask of
 -- what sort these are.
 -- Assumes nothing.
-use Rattle.std.specs.Prelude.{List, [], ◌∷◌, ℕ, zero, suc, Option, None, Some}
+use Rattle.std.specs.Prelude.{List, [], ℕ, zero, suc, Option, None, Some, option_to_list}
 use Rattle.refused.specs.declared.Refusal.{Refusal}
 use Rattle.refused.specs.Refused.{refusal_of}
 use Rattle.rulings.specs.Answers.{verdict_told, replaced_told}
@@ -31,10 +31,6 @@ judgement_by time bytes None = None
 judgement_by time bytes (Some zero) = None
 judgement_by time bytes (Some (suc n)) = Some (record { time = time; bytes = bytes; verdict = suc n })
 
-abbrev pub one_or_none : Option ℕ → List ℕ
-one_or_none None = []
-one_or_none (Some address) = address ∷ []
-
 -- nothing but a time, if any
 abbrev only_time : Option ℕ → Told
 only_time clock = record { clock = clock; judged = None; lost = [] }
@@ -45,7 +41,7 @@ told (judged_at time bytes answered) =
     record {
       clock = time_set (refusal_of answered) time;
       judged = judgement_by time bytes (verdict_told answered);
-      lost = one_or_none (replaced_told answered);
+      lost = option_to_list (replaced_told answered);
     }
 told (passed_at time reply) = only_time (time_set (refusal_of reply) time)
 told (explained_at time bytes why) = only_time None

@@ -121,11 +121,15 @@ all_rows =
     row 120 (syn 2 4840) FreshContact (pos 2) None (state_at (65 ∷ 0 ∷ 65 ∷ 0 ∷ 65 ∷ 0 ∷ 0 ∷ 64 ∷ 193 ∷ 64 ∷ 0 ∷ 0 ∷ 0 ∷ 0 ∷ 64 ∷ 0 ∷ []) (0xFCE676E6 ∷ 0x732FCEE7 ∷ 0 ∷ 0 ∷ []) (pos 2 ∷ pos 2 ∷ minus 32768 ∷ minus 32768 ∷ []) 120) ∷
     row 120 (syn 2 6379) FreshContact (pos 1) None (state_at (65 ∷ 0 ∷ 65 ∷ 0 ∷ 65 ∷ 0 ∷ 0 ∷ 0 ∷ 193 ∷ 64 ∷ 0 ∷ 0 ∷ 0 ∷ 0 ∷ 64 ∷ 0 ∷ []) (0xFCE676E6 ∷ 0x732FCEE7 ∷ 0 ∷ 0 ∷ []) (pos 2 ∷ pos 1 ∷ minus 32768 ∷ minus 32768 ∷ []) 120) ∷ first_rows
 
-abbrev exactly_rows : List Row
-exactly_rows =
-    row 100 (syn 1 11211) Blocked (pos 2) None (state_at (0 ∷ 0 ∷ 64 ∷ 0 ∷ 0 ∷ 0 ∷ 0 ∷ 0 ∷ 64 ∷ 0 ∷ 0 ∷ 0 ∷ 0 ∷ 0 ∷ 0 ∷ 0 ∷ []) (0xFCE676E6 ∷ 0 ∷ 0 ∷ 0 ∷ []) (pos 2 ∷ minus 32768 ∷ minus 32768 ∷ minus 32768 ∷ []) 100) ∷
+-- the second run: two contacts, and then it is blocked
+abbrev two_rows : List Row
+two_rows =
     row 100 (syn 1 4840) FreshContact (pos 2) None (state_at (0 ∷ 0 ∷ 64 ∷ 0 ∷ 0 ∷ 0 ∷ 0 ∷ 0 ∷ 64 ∷ 0 ∷ 0 ∷ 0 ∷ 0 ∷ 0 ∷ 0 ∷ 0 ∷ []) (0xFCE676E6 ∷ 0 ∷ 0 ∷ 0 ∷ []) (pos 2 ∷ minus 32768 ∷ minus 32768 ∷ minus 32768 ∷ []) 100) ∷
     row 100 (syn 1 6379) FreshContact (pos 1) None (state_at (0 ∷ 0 ∷ 0 ∷ 0 ∷ 0 ∷ 0 ∷ 0 ∷ 0 ∷ 64 ∷ 0 ∷ 0 ∷ 0 ∷ 0 ∷ 0 ∷ 0 ∷ 0 ∷ []) (0xFCE676E6 ∷ 0 ∷ 0 ∷ 0 ∷ []) (pos 1 ∷ minus 32768 ∷ minus 32768 ∷ minus 32768 ∷ []) 100) ∷ []
+
+abbrev exactly_rows : List Row
+exactly_rows =
+    row 100 (syn 1 11211) Blocked (pos 2) None (state_at (0 ∷ 0 ∷ 64 ∷ 0 ∷ 0 ∷ 0 ∷ 0 ∷ 0 ∷ 64 ∷ 0 ∷ 0 ∷ 0 ∷ 0 ∷ 0 ∷ 0 ∷ 0 ∷ []) (0xFCE676E6 ∷ 0 ∷ 0 ∷ 0 ∷ []) (pos 2 ∷ minus 32768 ∷ minus 32768 ∷ minus 32768 ∷ []) 100) ∷ two_rows
 
 and_then : {x y : After (Result Answer Refusal)} {xs ys : List (After (Result Answer Refusal))} → x ≡ y → xs ≡ ys → x ∷ xs ≡ y ∷ ys
 and_then p q = λ i. p i ∷ q i
@@ -246,11 +250,6 @@ pub no_more : (before : List Event) × (happened gateway allowed ≡ judged_at 1
 no_more = (_, happened_is all_rows all_made)
 
 -- ---- blocked after exactly T
-abbrev two_rows : List Row
-two_rows =
-    row 100 (syn 1 4840) FreshContact (pos 2) None (state_at (0 ∷ 0 ∷ 64 ∷ 0 ∷ 0 ∷ 0 ∷ 0 ∷ 0 ∷ 64 ∷ 0 ∷ 0 ∷ 0 ∷ 0 ∷ 0 ∷ 0 ∷ 0 ∷ []) (0xFCE676E6 ∷ 0 ∷ 0 ∷ 0 ∷ []) (pos 2 ∷ minus 32768 ∷ minus 32768 ∷ minus 32768 ∷ []) 100) ∷
-    row 100 (syn 1 6379) FreshContact (pos 1) None (state_at (0 ∷ 0 ∷ 0 ∷ 0 ∷ 0 ∷ 0 ∷ 0 ∷ 0 ∷ 64 ∷ 0 ∷ 0 ∷ 0 ∷ 0 ∷ 0 ∷ 0 ∷ 0 ∷ []) (0xFCE676E6 ∷ 0 ∷ 0 ∷ 0 ∷ []) (pos 1 ∷ minus 32768 ∷ minus 32768 ∷ minus 32768 ∷ []) 100) ∷ []
-
 pub blocked_after_T : (before : List Event)
     × (happened gateway exactly ≡ judged_at 100 (syn 1 11211) (Ok (Judged Blocked (pos 2) None)) ∷ before)
     × (F gateway machine before ≡ least gateway)
