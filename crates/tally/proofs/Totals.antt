@@ -7,10 +7,10 @@ use native.Mathlib.Omega.{arith}
 use borrow.Author.Tests.{le-leb, lt-leb}
 use lib.ListN.{length, get_or}
 use lib.Seq.{get_or-set_same, get_or-set_other}
-use Rattle.std.specs.Prelude.{Some}
+use Rattle.std.specs.Prelude.{Some, Err}
 use Rattle.verdicts.specs.declared.Verdict.{Verdict}
 use Rattle.verdicts.specs.declared.Verdict.TheVariants.{Uncounted, CreditOfOne, CreditOfTwo, FreshContact, Hygiene, Blocked}
-use Rattle.rulings.specs.declared.answers.Answer.TheVariants.{Refused}
+use Rattle.refused.specs.declared.Refusal.{Refusal}
 use Rattle.rulings.specs.Answers.{verdict_told}
 use Rattle.verdicts.specs.Verdicts.{number_of}
 use Rattle.tally.specs.declared.Tally.{Tally}
@@ -40,9 +40,9 @@ module _ (t : Tally) (n : ℕ) where
   beyond_seven h = rw (lt-leb n 6 h)
 
 -- a refusal adds nothing
-pub refusal_adds_nothing : (t : Tally) (n : ℕ) → tallied t (verdict_told (Refused n)) ≡ t
+pub refusal_adds_nothing : (t : Tally) (r : Refusal) → tallied t (verdict_told (Err r)) ≡ t
 unfolding tallied
-refusal_adds_nothing t n = refl
+refusal_adds_nothing t r = refl
 
 -- "stopping at 4,294,967,295"
 pub stops : one_more 4294967295 ≡ 4294967295

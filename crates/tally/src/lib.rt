@@ -5,6 +5,7 @@ ghost use Rattle.std.specs.Prelude.{◌≡◌};
 ghost use Rattle.rulings.specs.Answers.{verdict_told};
 ghost use Rattle.tally.specs.Tally.{empty_tally, tallied, verdict_numbered};
 
+use refused::Refusal;
 use rulings::answers::Answer;
 
 // A total for each verdict, 0 to 6, by its number.
@@ -36,13 +37,14 @@ impl Tally {
     }
 
     // The tally with an answer's verdict added to its total. A refusal has none, and adds nothing.
-    pub fn with(self, answer: Answer) -> Tally
+    #[tactic(auto, using(crate::proofs::Totals::is_numbered), unfolding(crate::specs::Tally::tallied, crate::specs::Tally::verdict_numbered))]
+    pub fn with(self, answer: Result<Answer, Refusal>) -> Tally
         ensures { result ≡ tallied self (verdict_told answer) }
     {
         match answer {
-            Answer::Refused(_) => self,
-            Answer::NotOurs => self.with_verdict(0),
-            Answer::Judged { verdict, .. } => self.with_verdict(verdicts::number(verdict)),
+            Err(_) => self,
+            Ok(Answer::NotOurs) => self.with_verdict(0),
+            Ok(Answer::Judged { verdict, .. }) => self.with_verdict(verdicts::number(verdict)),
         }
     }
 }
