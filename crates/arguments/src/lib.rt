@@ -19,15 +19,11 @@ pub fn record_number(bytes: &[u8]) -> u64
         return 0;
     }
     let mut value = 0;
-    let mut done = 0;
-    while done < bytes.len() {
-        let byte = bytes[done];
-        if is_digit(byte) {
-            value = 10 * value + (byte - 48) as u64;
-            done += 1;
-        } else {
+    for &byte in bytes {
+        if !is_digit(byte) {
             return 0;
         }
+        value = 10 * value + u64::from(byte - 48);
     }
     value
 }
