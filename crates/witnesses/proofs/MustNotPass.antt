@@ -26,7 +26,7 @@ use Rattle.gateway.specs.Calls.{State, After, passed}
 use Rattle.books.proofs.Apart.{same_head, same_tail}
 use Rattle.witnesses.specs.Tight.{gateway, syn, syn_ack_back}
 use Rattle.witnesses.specs.MustNotPass.{AnyGateway, MeetsContracts, MustNotPass}
-use Rattle.witnesses.proofs.Tight.{state_before, judged_here, opening_rows, opening_made, cold, cold_is}
+use Rattle.witnesses.proofs.Tight.{state_before, judged_here, opening_rows, computed, cold, cold_is}
 
 -- a number that tells verdicts apart
 abbrev number_in : Option ℕ → ℕ
@@ -55,13 +55,13 @@ second = judged_at100 (syn_ack_back 1 6379) first.state
 
 contact : (refusal_in first.answer ≡ 0) × (verdict first ≡ 4) × (slot8 first.state.tables ≡ 64)
 contact =
-    let e = same_head (same_tail opening_made) in
+    let e = same_head (same_tail computed.opening_made) in
     (ap (λ (a : After (Result Answer Refusal)). refusal_in a.answer) e, ap verdict e, ap (λ (a : After (Result Answer Refusal)). slot8 a.state.tables) e)
 
 answer : verdict second ≡ 3
 answer =
-    ap (λ (a : After (Result Answer Refusal)). verdict (judged_at100 (syn_ack_back 1 6379) a.state)) (same_head (same_tail opening_made))
-    ∙ ap verdict (same_head opening_made)
+    ap (λ (a : After (Result Answer Refusal)). verdict (judged_at100 (syn_ack_back 1 6379) a.state)) (same_head (same_tail computed.opening_made))
+    ∙ ap verdict (same_head computed.opening_made)
 
 -- a record with the cell's mark, after a minute boundary
 abbrev marked : State

@@ -134,41 +134,47 @@ exactly_rows =
 and_then : {x y : After (Result Answer Refusal)} {xs ys : List (After (Result Answer Refusal))} → x ≡ y → xs ≡ ys → x ∷ xs ≡ y ∷ ys
 and_then p q = λ i. p i ∷ q i
 
-pub opening_made : made opening_rows ≡ said opening_rows
-unfolding times how_many every first_below foremost bad_limits slot_of place_of address_of bad_list holds rank_at rank_of best_number best_in decided tcp_kind kind_of needed header_refusal transport_of header_of minute_passed aged_by is_empty larger smaller point_less decayed_by own_way count_in empty_way smallest_way room_for count_of written bad_sizes multiples_passed time_passed from_the_plant from_the_cell from_blocked_cell verdict_of record_after count_written ruling_of early_refusal ours by_direction judged
-opening_made =
-    and_then (rw (permuted.plant, permuted.plant_and_1, permuted.slot_1_6379, permuted.machine_1) refl)
-    (and_then (rw (permuted.plant, permuted.plant_and_1, permuted.slot_1_6379, permuted.machine_1) refl) refl)
+-- what the gateway makes of each run's rows is what is said of them
+pub record Computed : Type 0 where
+  pub opening_made : made opening_rows ≡ said opening_rows
+  pub all_made : made all_rows ≡ said all_rows
+  pub exactly_made : made exactly_rows ≡ said exactly_rows
 
-first_made : made first_rows ≡ said first_rows
+pub computed : Computed
 unfolding times how_many every first_below foremost bad_limits slot_of place_of address_of bad_list holds rank_at rank_of best_number best_in decided tcp_kind kind_of needed header_refusal transport_of header_of minute_passed aged_by is_empty larger smaller point_less decayed_by own_way count_in empty_way smallest_way room_for count_of written bad_sizes multiples_passed time_passed from_the_plant from_the_cell from_blocked_cell verdict_of record_after count_written ruling_of early_refusal ours by_direction judged
-first_made =
-    and_then (rw (permuted.plant, permuted.plant_and_1, permuted.slot_1_5432, permuted.machine_1) refl)
-    (and_then (rw (permuted.plant, permuted.plant_and_1, permuted.slot_1_80, permuted.machine_1) refl)
-    (and_then (rw (permuted.plant, permuted.plant_and_1, permuted.slot_1_11211, permuted.machine_1) refl)
-    (and_then (rw (permuted.plant, permuted.plant_and_1, permuted.slot_1_4840, permuted.machine_1) refl) opening_made)))
+computed = record { opening_made = opening; all_made = all; exactly_made = cut }
+  where
+    opening : made opening_rows ≡ said opening_rows
+    opening =
+        and_then (rw (permuted.plant, permuted.plant_and_1, permuted.slot_1_6379, permuted.machine_1) refl)
+        (and_then (rw (permuted.plant, permuted.plant_and_1, permuted.slot_1_6379, permuted.machine_1) refl) refl)
 
-all_made : made all_rows ≡ said all_rows
-unfolding times how_many every first_below foremost bad_limits slot_of place_of address_of bad_list holds rank_at rank_of best_number best_in decided tcp_kind kind_of needed header_refusal transport_of header_of minute_passed aged_by is_empty larger smaller point_less decayed_by own_way count_in empty_way smallest_way room_for count_of written bad_sizes multiples_passed time_passed from_the_plant from_the_cell from_blocked_cell verdict_of record_after count_written ruling_of early_refusal ours by_direction judged
-all_made =
-    and_then (rw (permuted.plant, permuted.plant_and_1, permuted.slot_1_2049, permuted.machine_1) refl)
-    (and_then (rw (permuted.plant, permuted.plant_and_1, permuted.slot_1_2049, permuted.machine_1) refl)
-    (and_then (simp (permuted.plant, permuted.plant_and_1, permuted.slot_1_27017, permuted.machine_1, back.1))
-    (and_then (simp (permuted.plant, permuted.plant_and_5, permuted.slot_5_6379, permuted.machine_5, back.0))
-    (and_then (rw (permuted.plant, permuted.plant_and_4, permuted.slot_4_4840, permuted.machine_4) refl)
-    (and_then (rw (permuted.plant, permuted.plant_and_4, permuted.slot_4_6379, permuted.machine_4) refl)
-    (and_then (rw (permuted.plant, permuted.plant_and_3, permuted.slot_3_4840, permuted.machine_3) refl)
-    (and_then (rw (permuted.plant, permuted.plant_and_3, permuted.slot_3_6379, permuted.machine_3) refl)
-    (and_then (rw (permuted.plant, permuted.plant_and_2, permuted.slot_2_4840, permuted.machine_2) refl)
-    (and_then (rw (permuted.plant, permuted.plant_and_2, permuted.slot_2_6379, permuted.machine_2) refl)
-    (first_made))))))))))
+    first_half : made first_rows ≡ said first_rows
+    first_half =
+        and_then (rw (permuted.plant, permuted.plant_and_1, permuted.slot_1_5432, permuted.machine_1) refl)
+        (and_then (rw (permuted.plant, permuted.plant_and_1, permuted.slot_1_80, permuted.machine_1) refl)
+        (and_then (rw (permuted.plant, permuted.plant_and_1, permuted.slot_1_11211, permuted.machine_1) refl)
+        (and_then (rw (permuted.plant, permuted.plant_and_1, permuted.slot_1_4840, permuted.machine_1) refl) opening)))
 
-exactly_made : made exactly_rows ≡ said exactly_rows
-unfolding times how_many every first_below foremost bad_limits slot_of place_of address_of bad_list holds rank_at rank_of best_number best_in decided tcp_kind kind_of needed header_refusal transport_of header_of minute_passed aged_by is_empty larger smaller point_less decayed_by own_way count_in empty_way smallest_way room_for count_of written bad_sizes multiples_passed time_passed from_the_plant from_the_cell from_blocked_cell verdict_of record_after count_written ruling_of early_refusal ours by_direction judged
-exactly_made =
-    and_then (rw (permuted.plant, permuted.plant_and_1, permuted.slot_1_11211, permuted.machine_1) refl)
-    (and_then (rw (permuted.plant, permuted.plant_and_1, permuted.slot_1_4840, permuted.machine_1) refl)
-    (and_then (rw (permuted.plant, permuted.plant_and_1, permuted.slot_1_6379, permuted.machine_1) refl) refl))
+    all : made all_rows ≡ said all_rows
+    all =
+        and_then (rw (permuted.plant, permuted.plant_and_1, permuted.slot_1_2049, permuted.machine_1) refl)
+        (and_then (rw (permuted.plant, permuted.plant_and_1, permuted.slot_1_2049, permuted.machine_1) refl)
+        (and_then (simp (permuted.plant, permuted.plant_and_1, permuted.slot_1_27017, permuted.machine_1, back.1))
+        (and_then (simp (permuted.plant, permuted.plant_and_5, permuted.slot_5_6379, permuted.machine_5, back.0))
+        (and_then (rw (permuted.plant, permuted.plant_and_4, permuted.slot_4_4840, permuted.machine_4) refl)
+        (and_then (rw (permuted.plant, permuted.plant_and_4, permuted.slot_4_6379, permuted.machine_4) refl)
+        (and_then (rw (permuted.plant, permuted.plant_and_3, permuted.slot_3_4840, permuted.machine_3) refl)
+        (and_then (rw (permuted.plant, permuted.plant_and_3, permuted.slot_3_6379, permuted.machine_3) refl)
+        (and_then (rw (permuted.plant, permuted.plant_and_2, permuted.slot_2_4840, permuted.machine_2) refl)
+        (and_then (rw (permuted.plant, permuted.plant_and_2, permuted.slot_2_6379, permuted.machine_2) refl)
+        (first_half))))))))))
+
+    cut : made exactly_rows ≡ said exactly_rows
+    cut =
+        and_then (rw (permuted.plant, permuted.plant_and_1, permuted.slot_1_11211, permuted.machine_1) refl)
+        (and_then (rw (permuted.plant, permuted.plant_and_1, permuted.slot_1_4840, permuted.machine_1) refl)
+        (and_then (rw (permuted.plant, permuted.plant_and_1, permuted.slot_1_6379, permuted.machine_1) refl) refl))
 
 -- ---- so the runs are these
 abbrev pub cold : State
@@ -230,12 +236,12 @@ fresh_is rows e b =
 -- ---- all that is allowed: seven, by T 2, D 1, H 2 and R 1
 seven : F gateway machine (happened gateway allowed) ≡ 7
 unfolding every first_below foremost holds rank_at rank_of best_number best_in decided header_of
-seven = fresh_is all_rows all_made refl
+seven = fresh_is all_rows computed.all_made refl
 
 each_counts : (D gateway (happened gateway allowed) ≡ 1) × (H gateway machine (happened gateway allowed) ≡ 2) × (R gateway machine (happened gateway allowed) ≡ 1)
 unfolding how_many times_in multiples_passed every first_below foremost bad_limits holds rank_at rank_of best_number best_in decided header_of bad_sizes start_refusal started
 each_counts =
-    let h = happened_is all_rows all_made in
+    let h = happened_is all_rows computed.all_made in
     (ap (D gateway) h, ap (H gateway machine) h, ap (R gateway machine) h)
 
 -- the bound is reached, with every term of it above 0 and T above 1: none of them could go, nor the factor T
@@ -247,7 +253,7 @@ every_term = (omega (arith, each_counts), omega (arith, each_counts), omega (ari
 
 -- and then it gets not one more
 pub no_more : (before : List Event) × (happened gateway allowed ≡ judged_at 120 (syn 1 2049) (Ok (Judged Blocked (pos 2) None)) ∷ before)
-no_more = (_, happened_is all_rows all_made)
+no_more = (_, happened_is all_rows computed.all_made)
 
 -- ---- blocked after exactly T
 pub blocked_after_T : (before : List Event)
@@ -255,10 +261,10 @@ pub blocked_after_T : (before : List Event)
     × (F gateway machine before ≡ least gateway)
 unfolding left_by state_after event_of history every first_below foremost holds rank_at rank_of best_number best_in decided header_of
 blocked_after_T =
-    (happened gateway asked, happened_exactly, add-zero (F gateway machine (happened gateway (calls_of two_rows))) ∙ fresh_is two_rows (same_tail exactly_made) refl)
+    (happened gateway asked, happened_exactly, add-zero (F gateway machine (happened gateway (calls_of two_rows))) ∙ fresh_is two_rows (same_tail computed.exactly_made) refl)
   where
     asked : List Call
     asked = why_at 100 (syn 1 11211) ∷ calls_of two_rows
 
     happened_exactly : happened gateway exactly ≡ judged_at 100 (syn 1 11211) (Ok (Judged Blocked (pos 2) None)) ∷ happened gateway asked
-    happened_exactly = λ i. same_head (happened_is exactly_rows exactly_made) i ∷ happened gateway asked
+    happened_exactly = λ i. same_head (happened_is exactly_rows computed.exactly_made) i ∷ happened gateway asked
