@@ -1,3 +1,4 @@
 -- What is proved of reading beyond the contracts.
 pub mod Flags
 pub mod Order
+pub mod Rest

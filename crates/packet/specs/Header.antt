@@ -80,6 +80,19 @@ header_of b =
 unfoldable pub read_of : List ℕ → Result Header Refusal
 read_of b = answer_unless (header_refusal b) (header_of b)
 
+-- ---- the same, as the code finds it: of the usable bytes after the IP header, which may be too few for the protocol
+abbrev pub transport_in : List ℕ → ℕ → Bool → Transport
+transport_in rest protocol later =
+    record {
+      source_port = cond (ported protocol later) (two_at rest 0) 0;
+      destination_port = cond (ported protocol later) (two_at rest 2) 0;
+      kind = kind_of protocol later (get_or rest 13 0);
+    }
+
+unfoldable pub transport_read : List ℕ → ℕ → Bool → Result Transport Refusal
+transport_read rest protocol later =
+    answer_unless (cond (ltb (length rest) (needed protocol later)) (Some refusal.Short) None) (transport_in rest protocol later)
+
 -- ---- the two forms of `transport_of` that the code's own steps answer: with ports that stand at a place, and without
 abbrev pub with_ports : List ℕ → ℕ → Kind → Transport
 with_ports b start kind = record { source_port = two_at b start; destination_port = two_at b (start + 2); kind = kind }

@@ -1,9 +1,8 @@
 // Reading a packet's headers: IPv4 (RFC 791), then TCP (RFC 9293) or UDP (RFC 768). Options and checksums are not looked at.
 #![tactic(auto)]
 
-ghost use Rattle.std.specs.Prelude.{◌≡◌, ◌+◌, ◌*◌, ◌%◌, ◌≤◌, length, None};
-ghost use Rattle.refused.specs.Refused.{answer_unless};
-ghost use Rattle.packet.specs.Header.{later, needed, header_refusal, with_ports, without_ports, transport_of, header_of, read_of};
+ghost use Rattle.std.specs.Prelude.{◌≡◌, ◌+◌, ◌*◌, ◌%◌, ◌≤◌, length};
+ghost use Rattle.packet.specs.Header.{later, needed, with_ports, without_ports, transport_read, read_of};
 ghost use Rattle.packet.specs.Kinds.{port_of};
 
 pub mod kinds;
@@ -61,30 +60,6 @@ fn needed_after(protocol: u8, later: bool) -> usize
     }
 }
 
-// The header tests in their order: a packet is refused by 5 or 6.
-#[tactic(auto, using(words::proofs::Words::there), unfolding(crate::specs::Header::header_refusal))]
-fn test(bytes: &[u8]) -> Result<(), Refusal>
-    ensures { result ≡ answer_unless (header_refusal bytes.now) tt }
-{
-    if bytes.len() < 20 {
-        return Err(Refusal::Short);
-    }
-    let first = bytes[0];
-    let start = header_length(first);
-    let total = words::two_at(bytes, 2) as usize;
-    if ((first / 16 != 4) | (first % 16 < 5)) | (total < start) {
-        return Err(Refusal::Header);
-    }
-    if bytes.len() < start {
-        return Err(Refusal::Short);
-    }
-    let after = needed_after(bytes[9], is_later(bytes));
-    if bytes.len().min(total) < start + after {
-        return Err(Refusal::Short);
-    }
-    Ok(())
-}
-
 // Plain, with no ports.
 fn portless() -> Transport
     ensures { result ≡ without_ports }
@@ -98,53 +73,59 @@ fn portless() -> Transport
 
 // Two ports, which stand first after the IP header, and a kind.
 #[tactic(auto, using(words::proofs::Words::there))]
-fn with_ports(bytes: &[u8], start: usize, kind: Kind) -> Transport
-    requires { (start ≤ 60) × (start + 4 ≤ length bytes.now) }
-    ensures { result ≡ with_ports bytes.now start kind }
+fn with_ports(rest: &[u8], kind: Kind) -> Transport
+    requires { 4 ≤ length rest.now }
+    ensures { result ≡ with_ports rest.now 0 kind }
 {
     Transport {
-        source_port: words::two_at(bytes, start),
-        destination_port: words::two_at(bytes, start + 2),
+        source_port: words::two_at(rest, 0),
+        destination_port: words::two_at(rest, 2),
         kind,
     }
 }
 
-// What follows the IP header of a packet that is not refused.
-#[tactic(auto, using(crate::proofs::Order::tcp_there, crate::proofs::Order::udp_there), unfolding(crate::specs::Kinds::kind_of, crate::specs::Header::transport_of))]
-fn transport_of(bytes: &[u8]) -> Transport
-    requires { (20 ≤ length bytes.now) × (header_refusal bytes.now ≡ None) }
-    ensures { result ≡ transport_of bytes.now }
+// What follows the IP header, by the usable bytes that do. It is refused by 5 where the protocol needs more of them.
+#[tactic(auto, unfolding(crate::specs::Kinds::kind_of, crate::specs::Header::needed, crate::specs::Header::transport_read))]
+fn transport_of(rest: &[u8], protocol: u8, later: bool) -> Result<Transport, Refusal>
+    ensures { result ≡ transport_read rest.now protocol later }
 {
-    let start = header_length(bytes[0]);
-    match (is_later(bytes), bytes[9]) {
-        (false, TCP) => with_ports(bytes, start, kinds::of_flags(bytes[start + 13])),
-        (false, UDP) => with_ports(bytes, start, Kind::Udp),
-        _ => portless(),
+    if rest.len() < needed_after(protocol, later) {
+        return Err(Refusal::Short);
+    }
+    match (later, protocol) {
+        (false, TCP) => Ok(with_ports(rest, kinds::of_flags(rest[13]))),
+        (false, UDP) => Ok(with_ports(rest, Kind::Udp)),
+        _ => Ok(portless()),
     }
 }
 
-// The headers of a packet that is not refused.
-#[tactic(auto, using(words::proofs::Words::there), unfolding(crate::specs::Header::header_of))]
-fn header_of(bytes: &[u8]) -> Header
-    requires { (20 ≤ length bytes.now) × (header_refusal bytes.now ≡ None) }
-    ensures { result ≡ header_of bytes.now }
-{
-    Header {
-        source: words::four_at(bytes, 12),
-        destination: words::four_at(bytes, 16),
-        protocol: bytes[9],
-        later: is_later(bytes),
-        transport: transport_of(bytes),
-    }
-}
-
-// Reads the headers of a packet, and answers what the gateway needs of them. It is refused by 5 or 6.
-#[tactic(auto, unfolding(crate::specs::Header::read_of))]
+// Reads the headers of a packet, and answers what the gateway needs of them. It is refused by 5 or 6, by tests in their order.
+#[tactic(auto, using(words::proofs::Words::there), unfolding(crate::specs::Header::read_of, crate::specs::Header::header_refusal))]
 pub fn read(bytes: &[u8]) -> Result<Header, Refusal>
     ensures { result ≡ read_of bytes.now }
 {
-    test(bytes)?;
-    Ok(header_of(bytes))
+    if bytes.len() < 20 {
+        return Err(Refusal::Short);
+    }
+    let first = bytes[0];
+    let start = header_length(first);
+    let total = words::two_at(bytes, 2) as usize;
+    if ((first / 16 != 4) | (first % 16 < 5)) | (total < start) {
+        return Err(Refusal::Header);
+    }
+    if bytes.len() < start {
+        return Err(Refusal::Short);
+    }
+    let usable = bytes.len().min(total);
+    let protocol = bytes[9];
+    let later = is_later(bytes);
+    Ok(Header {
+        source: words::four_at(bytes, 12),
+        destination: words::four_at(bytes, 16),
+        protocol,
+        later,
+        transport: transport_of(&bytes[start..usable], protocol, later)?,
+    })
 }
 
 impl Header {
