@@ -1,7 +1,7 @@
 // Reading a packet's headers: IPv4 (RFC 791), then TCP (RFC 9293) or UDP (RFC 768). Options and checksums are not looked at.
 #![tactic(auto)]
 
-ghost use Rattle.std.specs.Prelude.{◌≡◌, ◌+◌, ◌*◌, ◌%◌, ◌≤◌, length};
+ghost use Rattle.std.specs.Prelude.{◌≡◌, ◌*◌, ◌%◌, ◌≤◌, length};
 ghost use Rattle.packet.specs.Header.{later, needed, with_ports, without_ports, transport_read, read_of};
 ghost use Rattle.packet.specs.Kinds.{port_of};
 
