@@ -325,7 +325,8 @@ module _ (x : Setup) (start : Start) where
         (judged_at s.clock bytes (Ok (ours r s.placing (header_of bytes) from_plant s.tables).answer))
     unfolding ruling_of
     stepped_ours clock from_plant e =
-        subst (λ (outcome : Outcome). Stepped x start clock h (state_by s outcome) (judged_at s.clock bytes (Ok outcome.answer))) (ours_is from_plant e)
+        subst (λ (outcome : Outcome). Stepped x start clock h (state_by s outcome) (judged_at s.clock bytes (Ok outcome.answer)))
+        (ours_is from_plant e)
         (stepped_judged s h i bytes small clock)
 
   -- ---- any packet
@@ -342,7 +343,8 @@ module _ (x : Setup) (start : Start) where
     by_direction_lem l FromPlant e =
         subst (λ (t : ℕ). Stepped x start s.clock h (by FromPlant).state (judged_at t bytes (Ok (by FromPlant).answer)))
         (clock_at x s time l) (stepped_ours (timed x time s) h (run_onward x start time l i) bytes small s.clock true (ap is_from_plant e))
-    by_direction_lem l NotOurs e = stepped_quiet x start (run_onward x start time l i) (judged_at time bytes (Ok answer.NotOurs)) refl (clock_at x s time l)
+    by_direction_lem l NotOurs e =
+        stepped_quiet x start (run_onward x start time l i) (judged_at time bytes (Ok answer.NotOurs)) refl (clock_at x s time l)
 
     early : packet_refusal site.limits site.cell site.plant time bytes s ≡ None → s.clock ≤ time
     early e =
@@ -358,6 +360,7 @@ module _ (x : Setup) (start : Start) where
         after = by (direction_in site.cell site.plant (header_of bytes))
 
         go : (refusal : Option Refusal) → packet_refusal site.limits site.cell site.plant time bytes s ≡ refusal
-            → Stepped x start s.clock h (unless_refused refusal s after).state (judged_at time bytes (unless_refused refusal s after).answer)
+            → Stepped x start s.clock h (unless_refused refusal s after).state
+            (judged_at time bytes (unless_refused refusal s after).answer)
         go None e = by_direction_lem (early e) (direction_in site.cell site.plant (header_of bytes)) refl
         go (Some refusal) e = stepped_quiet x start i (judged_at time bytes (Err refusal)) refl refl

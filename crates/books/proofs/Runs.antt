@@ -110,7 +110,8 @@ module _ (x : Setup) (start : Start) where
     rightly_at (call ∷ calls) fit (y ∷ newer) older event e = rightly_at calls fit.1 newer older event (same_tail e)
 
     -- verdict 4 is answered exactly to fresh contacts
-    pub four_is_fresh : (calls : List Call) → AllFit x calls → (newer older : List Event) (time : ℕ) (bytes : List ℕ) (answered : Result Answer Refusal)
+    pub four_is_fresh : (calls : List Call) → AllFit x calls → (newer older : List Event) (time : ℕ) (bytes : List ℕ)
+        (answered : Result Answer Refusal)
         → happened calls ≡ newer ++ (judged_at time bytes answered ∷ older)
         → is_fresh site start time (ours_of site bytes) (verdict_told answered) older ≡ tells 4 (verdict_told answered)
     four_is_fresh calls fit newer older time bytes answered e =
@@ -147,7 +148,8 @@ module _ (x : Setup) (start : Start) where
 
     -- No packet is dropped as blocked before enough fresh contacts of its address were forwarded, from any start: "blocking needs T less
     -- that count, or T where the count is negative".
-    pub not_before : (calls : List Call) → AllFit x calls → (newer older : List Event) (time : ℕ) (bytes : List ℕ) (answered : Result Answer Refusal)
+    pub not_before : (calls : List Call) → AllFit x calls → (newer older : List Event) (time : ℕ) (bytes : List ℕ)
+        (answered : Result Answer Refusal)
         → happened calls ≡ newer ++ (judged_at time bytes answered ∷ older) → verdict_told answered ≡ Some 6 → Enough x start bytes older
     not_before calls fit newer older time bytes answered e six =
         (subst (λ (verdict : Option ℕ). Rightly x start older (judgement_by time bytes verdict)) six

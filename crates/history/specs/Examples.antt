@@ -118,6 +118,8 @@ examples =
     -- D: "the multiples of Dmiss passed since the cold start", at 120 and 180; a refused call and the question why pass no
     -- time, a packet that is not ours does
     example (D (passed_at 180 (Ok tt) ∷ [])) 2 ∷
-    example (D (passed_at 300 (Err refusal.Time) ∷ judged_at 240 (sent 1 1 2) (Err refusal.Short) ∷ judged 180 (sent 1 1 2) FreshContact ∷ [])) 2 ∷
+    example
+    (D (passed_at 300 (Err refusal.Time) ∷ judged_at 240 (sent 1 1 2) (Err refusal.Short) ∷ judged 180 (sent 1 1 2) FreshContact ∷ []))
+    2 ∷
     example (D (asked 240 FreshContact ∷ judged_at 180 (sent 1 1 2) (Ok NotOurs) ∷ [])) 2 ∷
     example (D (judged_at 119 (sent 1 1 2) (Ok NotOurs) ∷ [])) 0 ∷ []

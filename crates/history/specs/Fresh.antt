@@ -20,6 +20,7 @@ pub record Ours : Type 0 where
   pub header : Header
   pub from_plant : Bool
 
+-- of the two directions that a packet of ours has it is the one from the plant
 abbrev pub is_from_plant : Direction → Bool
 is_from_plant FromCell = false
 is_from_plant FromPlant = true

@@ -109,7 +109,8 @@ module _ (g : Gateway) (cold : StartsCold g) where
   first_is : first g ≡ started_cold cold_state_lem
   unfolding started
   first_is =
-      ap (λ (refusal : Option Refusal). started_cold (unless_refused refusal (unstarted g.tables g.clock) (after_call tt cold_state_lem)).state) cold.not_refused
+      ap (λ (refusal : Option Refusal). started_cold (unless_refused refusal (unstarted g.tables g.clock) (after_call tt cold_state_lem)).state)
+      cold.not_refused
 
   -- every record is 0, and no address has an entry
   zero_record : (n slot : ℕ) → ◌≡◌ {A = ℕ} (get_or (replicate n 0) slot 0) 0

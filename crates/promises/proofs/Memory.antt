@@ -32,7 +32,8 @@ module _ (g : Gateway) (cold : StartsCold g) (calls : List Call) (bytes : OfByte
   unfolding setup
   answered_as_fresh address = answered (setup g cold) (first g) (good_first g cold) calls (all_fit g cold calls bytes) address
 
-  four : (after before : List Event) (time : ℕ) (packet : List ℕ) (answered : Result Answer Refusal) → happened g calls ≡ after ++ (judged_at time packet answered ∷ before)
+  four : (after before : List Event) (time : ℕ) (packet : List ℕ) (answered : Result Answer Refusal)
+      → happened g calls ≡ after ++ (judged_at time packet answered ∷ before)
       → is_fresh (site g) (first g) time (ours_of (site g) packet) (verdict_told answered) before ≡ tells 4 (verdict_told answered)
   unfolding setup
   four = four_is_fresh (setup g cold) (first g) (good_first g cold) calls (all_fit g cold calls bytes)

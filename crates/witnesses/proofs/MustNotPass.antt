@@ -56,11 +56,16 @@ second = judged_at100 (syn_ack_back 1 6379) first.state
 contact : (refusal_in first.answer ≡ 0) × (verdict first ≡ 4) × (slot8 first.state.tables ≡ 64)
 contact =
     let e = same_head (same_tail computed.opening_made) in
-    (ap (λ (a : After (Result Answer Refusal)). refusal_in a.answer) e, ap verdict e, ap (λ (a : After (Result Answer Refusal)). slot8 a.state.tables) e)
+    (
+      ap (λ (a : After (Result Answer Refusal)). refusal_in a.answer) e,
+      ap verdict e,
+      ap (λ (a : After (Result Answer Refusal)). slot8 a.state.tables) e,
+    )
 
 answer : verdict second ≡ 3
 answer =
-    ap (λ (a : After (Result Answer Refusal)). verdict (judged_at100 (syn_ack_back 1 6379) a.state)) (same_head (same_tail computed.opening_made))
+    ap (λ (a : After (Result Answer Refusal)). verdict (judged_at100 (syn_ack_back 1 6379) a.state))
+    (same_head (same_tail computed.opening_made))
     ∙ ap verdict (same_head computed.opening_made)
 
 -- a record with the cell's mark, after a minute boundary
@@ -80,7 +85,8 @@ module _ (g : AnyGateway) (m : MeetsContracts g) where
   by_contract bytes before = m.of_judge gateway.settings.limits gateway.cell gateway.plant 100 bytes before
 
   started_cold : (g.start gateway.settings 100 gateway.tables gateway.clock).state ≡ cold
-  started_cold = ap (λ (a : After (Result (Unit {0}) Refusal)). a.state) (m.of_start gateway.settings 100 gateway.tables gateway.clock) ∙ cold_is
+  started_cold =
+      ap (λ (a : After (Result (Unit {0}) Refusal)). a.state) (m.of_start gateway.settings 100 gateway.tables gateway.clock) ∙ cold_is
 
   pub must_not_pass : MustNotPass g
   must_not_pass =
