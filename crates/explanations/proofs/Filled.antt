@@ -1,8 +1,8 @@
--- A text is put letter by letter, and nothing is put where nothing is to stand.
+-- A text is put letter by letter.
 -- Assumes nothing.
 use mathlib.Core.Bool.{Bool}
-use mathlib.Core.List.{List, [], ◌∷◌}
-use mathlib.Core.Path.{◌≡◌, refl, sym, ap, ◌∙◌}
+use mathlib.Core.List.{List, ◌∷◌}
+use mathlib.Core.Path.{◌≡◌, sym, ap, ◌∙◌}
 use Prim.Native.Nat.{ℕ, suc, ◌+◌, ◌≤◌, ◌<◌}
 use native.Mathlib.Omega.{arith}
 use lib.ListN.{length, get_or, drop, drop_of_length-le}
@@ -11,10 +11,6 @@ use Rattle.lines.specs.Room.{Room, put}
 use Rattle.lines.proofs.Rooms.{put_more}
 use Rattle.explanations.specs.declared.Report.{Report}
 use Rattle.explanations.specs.Values.{letter_text, is_mark, filled}
-
-pub put_nothing : (room : Room) → room ≡ put [] room
-unfolding put
-put_nothing room = refl
 
 module _ (report : Report) (text : List ℕ) where
   -- the next letter, and then the rest

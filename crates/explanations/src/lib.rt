@@ -82,7 +82,7 @@ fn kinds_that_pass(verdict: Verdict) -> &'static [u8]
 fn has_ports(header: Header) -> bool
     ensures { result ≡ has_ports header }
 {
-    !header.later & ((header.protocol == 6) | (header.protocol == 17))
+    !header.later & matches!(header.protocol, 6 | 17)
 }
 
 // A port in the first line, or "-".
@@ -129,7 +129,7 @@ fn put_value(room: &mut Room, letter: u8, report: Report)
     let transport = header.transport;
     match letter {
         b'n' => room.decimal(report.number),
-        b'v' => room.decimal(verdicts::number(drop.verdict) as u64),
+        b'v' => room.decimal(u8::from(drop.verdict) as u64),
         b'c' => room.signed(drop.count),
         b't' => room.decimal(drop.threshold as u64),
         b's' => room.decimal(report.seconds as u64),

@@ -2,10 +2,10 @@
 -- Assumes nothing.
 use mathlib.Core.Path.{◌≡◌, refl, sym, ap, ◌∙◌}
 use mathlib.Core.List.{List, [], ◌∷◌, ◌++◌}
-use Prim.Native.Nat.{ℕ, suc, ◌+◌, ◌≤◌, ◌<◌}
+use Prim.Native.Nat.{ℕ, suc, ◌+◌, ◌<◌}
 use native.Mathlib.Omega.{arith}
 use lib.ListN.{length, get_or, take}
-use lib.Seq.{take_all, take-suc}
+use lib.Seq.{take-suc}
 use Rattle.lines.specs.Room.{Room, put_byte, put}
 
 pub put_more : (first second : List ℕ) (room : Room) → put (first ++ second) room ≡ put second (put first room)
@@ -31,14 +31,6 @@ put_next text done room h =
     ∙ ap (λ l. put l room) (sym (take-suc text done 0 h))
     ∙ ap (λ k. put (take k text) room) next
 
--- a text of which all bytes were put
-pub put_all : (text : List ℕ) (done : ℕ) (room : Room) → length text ≤ done → put (take done text) room ≡ put text room
-put_all text done room h = ap (λ l. put l room) (take_all done text h)
-
-pub put_none : (text : List ℕ) (room : Room) → room ≡ put (take 0 text) room
-unfolding put
-put_none text room = refl
-
 -- ---- steps of code: what the room is after each
 module _ (before : Room) {next after : Room} where
   pub text_then : (text rest : List ℕ) → next ≡ put text before → after ≡ put rest next → after ≡ put (text ++ rest) before
@@ -46,6 +38,3 @@ module _ (before : Room) {next after : Room} where
 
   pub byte_then : (byte : ℕ) (rest : List ℕ) → next ≡ put_byte byte before → after ≡ put rest next → after ≡ put (byte ∷ rest) before
   byte_then byte rest one others = others ∙ ap (put rest) one ∙ sym (put_first byte rest before)
-
-pub last_byte : (before : Room) {after : Room} (byte : ℕ) → after ≡ put_byte byte before → after ≡ put (byte ∷ []) before
-last_byte before byte one = one ∙ sym (put_one byte before)

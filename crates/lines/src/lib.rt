@@ -133,7 +133,7 @@ impl Room<'_> {
                     count,
                     replaced,
                 },
-            ) => self.verdict(verdicts::number(verdict), count, replaced),
+            ) => self.verdict(u8::from(verdict), count, replaced),
         }
     }
 
