@@ -1,5 +1,4 @@
 -- What the proofs of the decisions cite, and what they come to over a whole run.
-pub mod Cases
 pub mod Windows
 pub mod Heads
 pub mod Runs

@@ -19,15 +19,15 @@ use Rattle.words.proofs.Layouts.{numbers_alike}
 use Rattle.words.proofs.Words.{stored_length}
 use Rattle.capture.specs.Format.{magic, header_words}
 use Rattle.capture.specs.declared.Cursor.{Cursor}
-use Rattle.capture.specs.declared.Opened.{Opened}
-use Rattle.capture.specs.declared.Opened.TheVariants.{Refused, Open}
+use Rattle.std.specs.Prelude.{Result, Ok, Err}
+use Rattle.refused.specs.declared.Refusal.{Refusal}
+use Rattle.refused.specs.declared.Refusal.TheVariants as refusal
 use Rattle.capture.specs.declared.Reading.{Reading}
-use Rattle.capture.specs.Capture.{big_endian, bad_words, bad_header, opened_of, record_refusal, open_refusal}
+use Rattle.capture.specs.Capture.{big_endian, bad_words, bad_header, opened_of, record_refusal}
 use Rattle.capture.specs.Whole.{course_of}
 use Rattle.capture.specs.declared.Record.{Record}
 use Rattle.capture.proofs.Readings.{at_the_end}
 use Rattle.capture.proofs.Whole.{says}
-use Rattle.rulings.specs.declared.answers.Answer.TheVariants as answer
 use Rattle.lines.specs.Room.{Room, room_of, put}
 use Rattle.lines.specs.Letters.{text}
 use Rattle.lines.specs.Lines.{line, last_line}
@@ -92,12 +92,12 @@ module _ (output : Output) (room : List ℕ) (long : 2064 ≤ length room) where
   opening_long = ap (λ (r : Room). length r.bytes) opening_is ∙ stored_length (opening_of output) 0 room
 
 -- ---- how long the last words are
-header_few : (number : ℕ) → number < 2 ^ 8 → length (header_refused number) ≤ 92
-header_few number h =
+header_few : (refused : Refusal) → length (header_refused refused) ≤ 92
+header_few refused =
     omega (
       arith,
-      length-append (line 0 (answer.Refused number)) (last_line 0 1),
-      line_short 0 (answer.Refused number) (omega arith) h,
+      length-append (line 0 (Err refused)) (last_line 0 1),
+      line_short 0 (Err refused) (omega arith) tt,
       last_line_short 0 1 (omega arith) (omega arith),
     )
 
@@ -105,8 +105,8 @@ ending_few : (refused : Bool) (records refusals : ℕ) → records < 2 ^ 64 → 
 ending_few true records refusals h g =
     omega (
       arith,
-      length-append (line (one_more records) (answer.Refused 8)) (last_line records (one_more refusals)),
-      line_short (one_more records) (answer.Refused 8) (omega arith) (omega arith),
+      length-append (line (one_more records) (Err refusal.Record)) (last_line records (one_more refusals)),
+      line_short (one_more records) (Err refusal.Record) (omega arith) tt,
       last_line_short records (one_more refusals) h (omega arith),
     )
 ending_few false records refusals h g = omega (arith, last_line_short records refusals h g)
@@ -157,15 +157,7 @@ module _ (header rest : List ℕ) (long : length header ≡ 24) where
   same_opening =
       let more : 24 ≤ length (header ++ rest) = omega (arith, length-append header rest, long) in
       rw (le-ltb (length (header ++ rest)) 24 more, le-ltb (length header) 24 (omega (arith, long)))
-      (λ i. cond (same_words i) (Refused 7) (Open (record { at = 24; big_endian = same_order i })))
-
-refused_few : (l : List ℕ) (number : ℕ) → opened_of l ≡ Refused number → number < 2 ^ 8
-unfolding opened_of
-refused_few l number e = subst (λ (n : ℕ). n < 2 ^ 8) (ap open_refusal e) (go (bad_header l))
-  where
-    go : (bad : Bool) → open_refusal (cond bad (Refused 7) (Open (record { at = 24; big_endian = big_endian l }))) < 2 ^ 8
-    go true = omega arith
-    go false = omega arith
+      (λ i. cond (same_words i) (Err refusal.Capture) (Ok (record { at = 24; big_endian = same_order i })))
 
 -- ---- what is said at the end
 module _ (takes : ℕ) (reason : List ℕ) (output : Output) where
@@ -241,10 +233,10 @@ out_by Lines l cursor out end p q = λ i. p i ++ q i
 out_by Forwarded l cursor out end p q = p
 out_by (Reasons wanted) l cursor out end p q = λ i. p i ++ q i
 
-refused_by : (output : Output) (number : ℕ) → cond (on_output (ending_stream output)) (header_refused number) [] ≡ refused_output output number
-refused_by Lines number = refl
-refused_by Forwarded number = refl
-refused_by (Reasons wanted) number = refl
+refused_by : (output : Output) (refused : Refusal) → cond (on_output (ending_stream output)) (header_refused refused) [] ≡ refused_output output refused
+refused_by Lines refused = refl
+refused_by Forwarded refused = refl
+refused_by (Reasons wanted) refused = refl
 
 -- what stands on output is what it takes, and all of that was taken where it takes as many bytes
 module _ (takes : ℕ) (reason : List ℕ) (output : Output) (out lines : List ℕ) (within : length out ≤ takes) where
@@ -339,7 +331,7 @@ module _ (takes : ℕ) (reason : List ℕ) (output : Output) (header : List ℕ)
   big = cursor.big_endian
 
   abbrev begun : Beginning
-  begun = begun_by output (Open cursor) room
+  begun = begun_by output (Ok cursor) room
 
   abbrev first : Run
   first = first_run takes reason output buffer begun (record { pieces = pieces; fails = fails })
@@ -348,7 +340,7 @@ module _ (takes : ℕ) (reason : List ℕ) (output : Output) (header : List ℕ)
   last = run takes output big turns first
 
   record Opened-so : Type 0 where
-    opens : opened_of all ≡ Open cursor
+    opens : opened_of all ≡ Ok cursor
     header_long : length header ≡ 24
     full : AllFull pieces
     bytes : Bytes all
@@ -642,7 +634,7 @@ module _ (takes : ℕ) (reason : List ℕ) (output : Output) (pieces : List (Lis
     read_whole : r.turn.stage.is_lost ≡ false → is_sound r.turn.stage ≡ true
     read_whole e = rw (head.heading.written, e)
 
-    said_by : (x : Opened) → r.turn.stage.is_lost ≡ false → opened_of capture ≡ x
+    said_by : (x : Result Cursor Refusal) → r.turn.stage.is_lost ≡ false → opened_of capture ≡ x
         → said ≡ replayed takes reason output turns buffer r (begun_by output x room)
     said_by x e f =
         cond_at (replayed takes reason output turns buffer r (begun_by output (opened_of window) r.turn.room))
@@ -650,39 +642,39 @@ module _ (takes : ℕ) (reason : List ℕ) (output : Output) (pieces : List (Lis
         ∙ (λ i. replayed takes reason output turns buffer r (begun_by output ((opening_told e ∙ f) i) (head.heading.same_room i)))
 
     -- ---- a header that is refused
-    module _ (found : r.turn.stage.is_lost ≡ false) (number : ℕ) (e : opened_of capture ≡ Refused number) where
-      few : length (header_refused number) ≤ length room
-      few = omega (arith, given.room_long, header_few number (refused_few capture number e))
+    module _ (found : r.turn.stage.is_lost ≡ false) (refused : Refusal) (e : opened_of capture ≡ Err refused) where
+      few : length (header_refused refused) ≤ length room
+      few = omega (arith, given.room_long, header_few refused)
 
-      lines_in : put_in (put (header_refused number) (room_of 0 room)) ≡ header_refused number
-      lines_in = put_in_lem (header_refused number) room few
+      lines_in : put_in (put (header_refused refused) (room_of 0 room)) ≡ header_refused refused
+      lines_in = put_in_lem (header_refused refused) room few
 
-      long : 2064 ≤ length (put (header_refused number) (room_of 0 room)).bytes
-      long = omega (arith, given.room_long, same_long (header_refused number) room few)
+      long : 2064 ≤ length (put (header_refused refused) (room_of 0 room)).bytes
+      long = omega (arith, given.room_long, same_long (header_refused refused) room few)
 
       abbrev lines_put : List ℕ
-      lines_put = put_in (put (header_refused number) (room_of 0 room))
+      lines_put = put_in (put (header_refused refused) (room_of 0 room))
 
-      refused_said : said ≡ said_last takes reason output (ending_stream output) r.turn.stage (put (header_refused number) (room_of 0 room)).bytes [] lines_put
-      refused_said = said_by (Refused number) found e
+      refused_said : said ≡ said_last takes reason output (ending_stream output) r.turn.stage (put (header_refused refused) (room_of 0 room)).bytes [] lines_put
+      refused_said = said_by (Err refused) found e
 
       out_is : all_of takes reason output [] lines_put (omega arith) ≡ program_output output capture
       out_is =
           ap (λ (lines : List ℕ). cond (on_output (ending_stream output)) lines []) lines_in
-          ∙ refused_by output number
+          ∙ refused_by output refused
           ∙ sym (ap (opened_output output capture program_tables) e)
 
       refused_out : said.out ≡ take takes (program_output output capture)
       refused_out =
           ap (λ (x : Said). x.out) refused_said
-          ∙ last_out takes reason output r.turn.stage (put (header_refused number) (room_of 0 room)).bytes [] lines_put
+          ∙ last_out takes reason output r.turn.stage (put (header_refused refused) (room_of 0 room)).bytes [] lines_put
           ∙ cut_out takes reason output [] lines_put (omega arith)
           ∙ ap (take takes) out_is
 
       refused_beside : length (program_output output capture) ≤ takes → said.beside ≡ program_beside output capture
       refused_beside h =
           ap (λ (x : Said). x.beside) refused_said
-          ∙ last_beside takes reason r.turn.stage (put (header_refused number) (room_of 0 room)).bytes [] lines_put long head.heading.written found output
+          ∙ last_beside takes reason r.turn.stage (put (header_refused refused) (room_of 0 room)).bytes [] lines_put long head.heading.written found output
           (taken_if takes reason output [] lines_put (omega arith) (omega (arith, h, ap length out_is)))
           ∙ (λ i. beside_of output (lines_in i) (head.heading.none_told i).records)
           ∙ sym (ap (opened_beside output capture) e)
@@ -690,11 +682,11 @@ module _ (takes : ℕ) (reason : List ℕ) (output : Output) (pieces : List (Lis
       refused_broken : takes < length (program_output output capture) → said.beside ≡ []
       refused_broken h =
           ap (λ (x : Said). x.beside) refused_said
-          ∙ last_broken takes reason r.turn.stage (put (header_refused number) (room_of 0 room)).bytes [] lines_put long head.heading.written found output
+          ∙ last_broken takes reason r.turn.stage (put (header_refused refused) (room_of 0 room)).bytes [] lines_put long head.heading.written found output
           (broken_if takes reason output [] lines_put (omega arith) (omega (arith, h, ap length out_is)))
 
     -- ---- a header that opens
-    module _ (found : r.turn.stage.is_lost ≡ false) (cursor : Cursor) (e : opened_of capture ≡ Open cursor) where
+    module _ (found : r.turn.stage.is_lost ≡ false) (cursor : Cursor) (e : opened_of capture ≡ Ok cursor) where
       abbrev whole_capture : List ℕ
       whole_capture = window ++ joined r.input.pieces
 
@@ -727,7 +719,7 @@ module _ (takes : ℕ) (reason : List ℕ) (output : Output) (pieces : List (Lis
       end_run = last takes reason output window r.input.pieces fails_now buffer room cursor turns
 
       opened_said : said ≡ ended takes reason output end_run
-      opened_said = said_by (Open cursor) found e
+      opened_said = said_by (Ok cursor) found e
 
       output_is : output_of output whole_capture cursor program_tables ≡ program_output output capture
       output_is = ap (λ (l : List ℕ). output_of output l cursor program_tables) split ∙ sym (ap (opened_output output capture program_tables) e)
@@ -776,8 +768,8 @@ module _ (takes : ℕ) (reason : List ℕ) (output : Output) (pieces : List (Lis
     pub puts_out : fails ≡ false → said.out ≡ take takes (program_output output capture)
     puts_out e =
         (elim (opened_of capture) as (λ x. opened_of capture ≡ x → said.out ≡ take takes (program_output output capture)) [
-          | Refused number ↦ λ f. refused_out (no_loss e) number f
-          | Open cursor ↦ λ f. open_out (no_loss e) cursor f e
+          | Err refused ↦ λ f. refused_out (no_loss e) refused f
+          | Ok cursor ↦ λ f. open_out (no_loss e) cursor f e
         ]) refl
 
     -- so all of it, where it takes all; and then standard error has what it should
@@ -786,8 +778,8 @@ module _ (takes : ℕ) (reason : List ℕ) (output : Output) (pieces : List (Lis
     program_puts_out e h = (
       puts_out e ∙ take_all takes (program_output output capture) h,
       (elim (opened_of capture) as (λ x. opened_of capture ≡ x → said.beside ≡ program_beside output capture) [
-        | Refused number ↦ λ f. refused_beside (no_loss e) number f h
-        | Open cursor ↦ λ f. open_beside (no_loss e) cursor f e h
+        | Err refused ↦ λ f. refused_beside (no_loss e) refused f h
+        | Ok cursor ↦ λ f. open_beside (no_loss e) cursor f e h
       ]) refl,
     )
 
@@ -795,12 +787,12 @@ module _ (takes : ℕ) (reason : List ℕ) (output : Output) (pieces : List (Lis
     pub broken_says_nothing : fails ≡ false → takes < length (program_output output capture) → said.beside ≡ []
     broken_says_nothing e h =
         (elim (opened_of capture) as (λ x. opened_of capture ≡ x → said.beside ≡ []) [
-          | Refused number ↦ λ f. refused_broken (no_loss e) number f h
-          | Open cursor ↦ λ f. open_broken (no_loss e) cursor f e h
+          | Err refused ↦ λ f. refused_broken (no_loss e) refused f h
+          | Ok cursor ↦ λ f. open_broken (no_loss e) cursor f e h
         ]) refl
 
     -- a read that fails is no end: the records before it are told, and nothing is said but that it failed
-    pub lost_says_so : fails ≡ true → (cursor : Cursor) → opened_of capture ≡ Open cursor → is_long (course_of capture cursor).ended ≡ false
+    pub lost_says_so : fails ≡ true → (cursor : Cursor) → opened_of capture ≡ Ok cursor → is_long (course_of capture cursor).ended ≡ false
         → length (told_of_capture output capture cursor program_tables).bytes ≤ takes
         → (said.out ≡ (told_of_capture output capture cursor program_tables).bytes) × (said.beside ≡ lost_text output reason)
     lost_says_so e cursor f not-long h = open_lost (by head.how) cursor f e not-long h

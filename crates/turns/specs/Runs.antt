@@ -1,9 +1,9 @@
 -- A whole run of a program, from the first byte of standard input: what stands on standard output at its end, and what was said beside it.
 -- Assumes nothing.
-use Rattle.std.specs.Prelude.{Bool, true, false, cond, List, [], ◌∷◌, ◌++◌, ℕ, zero, suc, min, ◌+◌, ◌-◌, ◌<◌, leb, length, take, drop}
+use Rattle.std.specs.Prelude.{Bool, true, false, cond, List, [], ◌∷◌, ◌++◌, ℕ, zero, suc, min, ◌+◌, ◌-◌, ◌<◌, leb, length, take, drop, Result, Ok, Err}
 use Rattle.words.specs.Words.{stored}
-use Rattle.capture.specs.declared.Opened.{Opened}
-use Rattle.capture.specs.declared.Opened.TheVariants.{Refused, Open}
+use Rattle.refused.specs.declared.Refusal.{Refusal}
+use Rattle.capture.specs.declared.Cursor.{Cursor}
 use Rattle.capture.specs.Capture.{opened_of}
 use Rattle.lines.specs.Lines.{newline}
 use Rattle.lines.specs.Text.{space}
@@ -190,9 +190,9 @@ lines_beside (Reasons wanted) lines = []
 abbrev pub beside_of : Output → List ℕ → ℕ → List ℕ
 beside_of output lines records = lines_beside output lines ++ cond (is_missing output records) missing_words []
 
-abbrev pub opened_beside : Output → List ℕ → Opened → List ℕ
-opened_beside output l (Refused number) = beside_of output (header_refused number) 0
-opened_beside output l (Open cursor) = beside_of output (ending_of output l cursor program_tables) (told_of_capture output l cursor program_tables).records
+abbrev pub opened_beside : Output → List ℕ → Result Cursor Refusal → List ℕ
+opened_beside output l (Err refusal) = beside_of output (header_refused refusal) 0
+opened_beside output l (Ok cursor) = beside_of output (ending_of output l cursor program_tables) (told_of_capture output l cursor program_tables).records
 
 abbrev pub program_beside : Output → List ℕ → List ℕ
 program_beside output l = opened_beside output l (opened_of l)

@@ -1,8 +1,8 @@
 -- What a program that replays a capture decides in a turn: when it reads, when it goes on, what it says at the end, and where.
 -- Assumes nothing.
-use Rattle.std.specs.Prelude.{Bool, true, false, cond, not, ◌&&◌, ◌||◌, List, [], ℕ, min, eqb, leb, ltb, ℤ, pos, negsuc, length, take}
-use Rattle.capture.specs.declared.Opened.{Opened}
-use Rattle.capture.specs.declared.Opened.TheVariants.{Refused, Open}
+use Rattle.std.specs.Prelude.{Bool, true, false, cond, not, ◌&&◌, ◌||◌, List, [], ℕ, min, eqb, leb, ltb, ℤ, pos, negsuc, length, take, Some, None, Result, Ok, Err}
+use Rattle.refused.specs.declared.Refusal.{Refusal}
+use Rattle.capture.specs.declared.Cursor.{Cursor}
 use Rattle.gateway.specs.Calls.{State}
 use Rattle.lines.specs.Letters.{text}
 use Rattle.lines.specs.Room.{room_of, put}
@@ -106,15 +106,12 @@ abbrev pub beginning_stream : Output → Bool → Stream
 beginning_stream output opens = cond opens Stdout (ending_stream output)
 
 -- ---- what is said beside output
--- the number of the record that alone is wanted, or 0
-abbrev pub wanted_of : Output → ℕ
-wanted_of Lines = 0
-wanted_of Forwarded = 0
-wanted_of (Reasons wanted) = wanted
-
--- that it is not among so many records
+-- that the record which alone is wanted is not among so many
 abbrev pub is_missing : Output → ℕ → Bool
-is_missing output records = ltb records (wanted_of output)
+is_missing Lines records = false
+is_missing Forwarded records = false
+is_missing (Reasons None) records = false
+is_missing (Reasons (Some wanted)) records = ltb records wanted
 
 unfoldable pub missing_words : List ℕ
 missing_words = text "why: the capture has no whole record with that number\n"
@@ -137,12 +134,12 @@ abbrev pub beginning_of : Begun → List ℕ → Beginning
 beginning_of begun room = record { begun = begun; room = room }
 
 -- a header that opens: the opening. One that does not: "Refusal 7 prints as record 0", and it is over.
-abbrev pub begun_by : Output → Opened → List ℕ → Beginning
-begun_by output (Refused number) room =
+abbrev pub begun_by : Output → Result Cursor Refusal → List ℕ → Beginning
+begun_by output (Err refusal) room =
     beginning_of
-    (record { put = (put (header_refused number) (room_of 0 room)).end; is_open = false; big_endian = false })
-    (put (header_refused number) (room_of 0 room)).bytes
-begun_by output (Open cursor) room =
+    (record { put = (put (header_refused refusal) (room_of 0 room)).end; is_open = false; big_endian = false })
+    (put (header_refused refusal) (room_of 0 room)).bytes
+begun_by output (Ok cursor) room =
     beginning_of
     (record { put = (opening_put output (room_of 0 room)).end; is_open = true; big_endian = cursor.big_endian })
     (opening_put output (room_of 0 room)).bytes

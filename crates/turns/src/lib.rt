@@ -4,16 +4,16 @@
 
 ghost use Rattle.std.specs.Prelude.{is_err, ◌≡◌};
 ghost use Rattle.capture.specs.Capture.{opened_of};
-ghost use Rattle.gateway.specs.Calls.{lent, left_state};
-ghost use Rattle.replay.specs.Replay.{program_placing};
+ghost use Rattle.gateway.specs.Calls.{SameMemory, state_in};
 ghost use Rattle.streams.specs.Streams.{held_after};
 ghost use Rattle.lines.specs.Room.{lent_room, left_room, put};
 ghost use Rattle.turns.specs.Turns.{first_stage, begun_anew, is_early, refilled_stage, taken_stage, written_stage, is_sound, goes_on, lacks_header};
-ghost use Rattle.turns.specs.Turns.{ends_refused, ending_due, ending_stream, beginning_stream, wanted_of, is_missing, missing_due, lost_words};
+ghost use Rattle.turns.specs.Turns.{ends_refused, ending_due, ending_stream, beginning_stream, is_missing, missing_due, lost_words};
 ghost use Rattle.turns.specs.Turns.{beginning_of, begun_by, turn_of, turn_taken};
 
-use capture::Opened;
 use feeding::Progress;
+use gateway::Gateway;
+use lines::Room;
 use outputs::Output;
 use std::io;
 
@@ -162,20 +162,22 @@ fn ends_refused(stage: Stage) -> bool
 
 // Puts how the capture ended: the record that was refused by 8, if one was, how many were read whole and how many refusals there were.
 // Nothing is said where anything was lost.
+#[tactic(auto, unfolding(lines::specs::Room::put))]
 pub fn put_end(room: &mut [u8], stage: Stage) -> usize
     ensures { left_room room result ≡ put (ending_due stage) (lent_room room 0) }
 {
     let progress = stage.progress;
-    if is_sound(stage) {
-        return endings::put_ending(
-            room,
-            0,
-            progress.records,
-            progress.refusals,
-            ends_refused(stage),
-        );
+    if !is_sound(stage) {
+        return 0;
     }
-    0
+    let mut out = Room { bytes: room, at: 0 };
+    endings::put_ending(
+        &mut out,
+        progress.records,
+        progress.refusals,
+        ends_refused(stage),
+    );
+    out.at
 }
 
 // Where the lines go that say how the capture ended. They are the printing program's last lines; where standard output is a capture itself
@@ -199,82 +201,97 @@ pub fn beginning_goes_to(output: Output, is_open: bool) -> Stream
     ending_goes_to(output)
 }
 
-// The number of the record that alone is wanted, or 0.
-fn wanted_of(output: Output) -> u64
-    ensures { result ≡ wanted_of output }
-{
-    match output {
-        Output::Lines | Output::Forwarded => 0,
-        Output::Reasons(wanted) => wanted,
-    }
-}
-
 // Whether the record that alone is wanted is not among so many.
 fn is_missing(output: Output, records: u64) -> bool
     ensures { result ≡ is_missing output records }
 {
-    records < wanted_of(output)
+    match output {
+        Output::Reasons(Some(wanted)) => records < wanted,
+        _ => false,
+    }
+}
+
+// Puts a text at the front.
+fn put_first(room: &mut [u8], text: &[u8]) -> usize
+    ensures { left_room room result ≡ put text.now (lent_room room 0) }
+{
+    let mut out = Room { bytes: room, at: 0 };
+    out.text(text);
+    out.at
 }
 
 // Puts that the record which alone is wanted is not there, where it is not. Nothing is said where anything was lost.
+#[tactic(auto, unfolding(lines::specs::Room::put))]
 pub fn put_missing(output: Output, room: &mut [u8], stage: Stage) -> usize
     ensures { left_room room result ≡ put (missing_due output stage) (lent_room room 0) }
 {
     let progress = stage.progress;
     if is_sound(stage) & is_missing(output, progress.records) {
-        return lines::put_text(
+        return put_first(
             room,
-            0,
             b"why: the capture has no whole record with that number\n",
         );
     }
     0
 }
 
+// That standard input cannot be read, and by which program.
+#[tactic(auto, unfolding(crate::specs::Turns::lost_words, lines::specs::Letters::text))]
+fn lost_words(output: Output) -> &'static [u8]
+    ensures { result.now ≡ lost_words output }
+{
+    match output {
+        Output::Lines => b"verdicts: standard input cannot be read",
+        Output::Forwarded => b"forwarded: standard input cannot be read",
+        Output::Reasons(_) => b"why: standard input cannot be read",
+    }
+}
+
 // Puts that standard input cannot be read, and by which program. Why is for the system to say.
 pub fn put_lost(output: Output, room: &mut [u8]) -> usize
     ensures { left_room room result ≡ put (lost_words output) (lent_room room 0) }
 {
-    match output {
-        Output::Lines => lines::put_text(room, 0, b"verdicts: standard input cannot be read"),
-        Output::Forwarded => lines::put_text(room, 0, b"forwarded: standard input cannot be read"),
-        Output::Reasons(wanted) => lines::put_text(room, 0, b"why: standard input cannot be read"),
-    }
+    put_first(room, lost_words(output))
 }
 
 // Puts what comes before the first record, by the capture's header: what opens it, or that it is refused.
 pub fn begin(output: Output, header: &[u8], room: &mut [u8]) -> Begun
     ensures { beginning_of result room.new ≡ begun_by output (opened_of header.now) room.old }
 {
+    let mut out = Room { bytes: room, at: 0 };
     match capture::open(header) {
-        Opened::Refused(number) => Begun {
-            put: endings::put_refused_header(room, 0, number),
-            is_open: false,
-            big_endian: false,
-        },
-        Opened::Open(cursor) => Begun {
-            put: outputs::put_opening(output, room, 0),
-            is_open: true,
-            big_endian: cursor.big_endian,
-        },
+        Ok(cursor) => {
+            outputs::put_opening(output, &mut out);
+            Begun {
+                put: out.at,
+                is_open: true,
+                big_endian: cursor.big_endian,
+            }
+        }
+        Err(refusal) => {
+            endings::put_refused_header(&mut out, refusal);
+            Begun {
+                put: out.at,
+                is_open: false,
+                big_endian: false,
+            }
+        }
     }
 }
 
 // Puts what the whole records at hand are due, and moves the bytes that are left to the front.
+#[tactic(auto, unfolding(crate::specs::Turns::turn_taken))]
 pub fn take(
     output: Output,
     input: &mut [u8],
     big_endian: bool,
     room: &mut [u8],
-    records: &mut [u8],
-    tags: &mut [u32],
-    counts: &mut [i16],
-    clock: &mut u32,
+    gateway: &mut Gateway<'_>,
     stage: Stage,
 ) -> Stage
-    ensures { turn_of result input.new room.new (left_state program_placing records tags counts clock)
-        ≡ turn_taken output big_endian
-        (turn_of stage input.old room.old (lent program_placing records tags counts clock)) }
+    ensures same_memory { SameMemory gateway.old gateway.new }
+    ensures state { turn_of result input.new room.new (state_in gateway.new)
+        ≡ turn_taken output big_endian (turn_of stage input.old room.old (state_in gateway.old)) }
 {
     let before = stage.progress;
     let end = streams::within(input, stage.held);
@@ -283,10 +300,7 @@ pub fn take(
         &input[..end],
         big_endian,
         room,
-        records,
-        tags,
-        counts,
-        clock,
+        gateway,
         anew(before),
     );
     let held = streams::shift(input, progress.at, end);
