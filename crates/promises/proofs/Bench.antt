@@ -14,25 +14,16 @@ use Rattle.rulings.specs.Rulings.{count_written, ruling_of}
 use Rattle.promises.specs.Bench.{zeros, table}
 
 -- the permutation is computed once for each word that the table has, and not again inside slots and lines
-at_zero : E zeros 0 ≡ 0xFFFFFFFF
+words : (E zeros 0 ≡ 0xFFFFFFFF)
+    × (E zeros 0xFFFFFFFF ≡ 0x99999999)
+    × (E zeros 0x99999999 ≡ 0x77777777)
+    × (E (1 ∷ replicate 7 0) 0xFFFFFFFF ≡ 0xFFFFFFFF)
 unfolding boxes nibbles round rounds E
-at_zero = refl
-
-at_ones : E zeros 0xFFFFFFFF ≡ 0x99999999
-unfolding boxes nibbles round rounds E
-at_ones = refl
-
-at_nines : E zeros 0x99999999 ≡ 0x77777777
-unfolding boxes nibbles round rounds E
-at_nines = refl
-
-at_key_one : E (1 ∷ replicate 7 0) 0xFFFFFFFF ≡ 0xFFFFFFFF
-unfolding boxes nibbles round rounds E
-at_key_one = refl
+words = (refl, refl, refl, refl)
 
 pub bench : map (λ r. r.computed) table ≡ map (λ r. r.said) table
 unfolding times how_many table slot_of place_of minute_passed aged_by larger smaller point_less decayed_by multiples_passed time_passed from_the_cell from_blocked_cell verdict_of record_after count_written ruling_of
-bench = simp (at_zero, at_ones, at_nines, at_key_one)
+bench = simp (words.0, words.1, words.2, words.3)
 
 -- all twelve stand
 pub rows : map (λ r. r.number) table ≡ 1 ∷ 2 ∷ 3 ∷ 4 ∷ 5 ∷ 6 ∷ 7 ∷ 8 ∷ 9 ∷ 10 ∷ 11 ∷ 12 ∷ []

@@ -55,8 +55,7 @@ second = judged_at100 (syn_ack_back 1 6379) first.state
 
 contact : (refusal_in first.answer ≡ 0) × (verdict first ≡ 4) × (slot8 first.state.tables ≡ 64)
 contact =
-    let e = same_head (same_tail computed.opening_made) in
-    (
+    let e = same_head (same_tail computed.opening_made) in (
       ap (λ (a : After (Result Answer Refusal)). refusal_in a.answer) e,
       ap verdict e,
       ap (λ (a : After (Result Answer Refusal)). slot8 a.state.tables) e,

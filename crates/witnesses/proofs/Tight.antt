@@ -260,12 +260,11 @@ pub blocked_after_T : (before : List Event)
     × (happened gateway exactly ≡ judged_at 100 (syn 1 11211) (Ok (Judged Blocked (pos 2) None)) ∷ before)
     × (F gateway machine before ≡ least gateway)
 unfolding left_by state_after event_of history every first_below foremost holds rank_at rank_of best_number best_in decided header_of
-blocked_after_T =
-    (
-      happened gateway asked,
-      happened_exactly,
-      add-zero (F gateway machine (happened gateway (calls_of two_rows))) ∙ fresh_is two_rows (same_tail computed.exactly_made) refl,
-    )
+blocked_after_T = (
+  happened gateway asked,
+  happened_exactly,
+  add-zero (F gateway machine (happened gateway (calls_of two_rows))) ∙ fresh_is two_rows (same_tail computed.exactly_made) refl,
+)
   where
     asked : List Call
     asked = why_at 100 (syn 1 11211) ∷ calls_of two_rows
