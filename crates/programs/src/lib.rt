@@ -2,6 +2,7 @@
 // standard output before the next read, which may wait. What they decide is said in `turns`: here it is read, handed on and written.
 #![tactic(auto)]
 
+use gateway::Gateway;
 use outputs::Output;
 use std::io::{Cursor, Error, Write};
 use std::rt::HostRuntime;
@@ -18,15 +19,12 @@ struct World {
     error: Option<Error>,
 }
 
-// The records of a capture: those bytes of them that are at hand, their byte order, and the gateway's tables and clock.
+// The records of a capture: those bytes of them that are at hand, their byte order, and the gateway that judges them.
 #[derive(Drop)]
-struct Records {
+struct Records<'a> {
     input: [u8; 262144],
     big_endian: bool,
-    records: [u8; 4096],
-    tags: [u32; 1024],
-    counts: [i16; 1024],
-    clock: u32,
+    gateway: Gateway<'a>,
 }
 
 // Whether a read failed that would only have had to wait.
@@ -99,23 +97,20 @@ impl World {
     }
 
     // Puts out what the whole records at hand are due, and writes it.
-    fn tell(&mut self, capture: &mut Records, stage: Stage) -> Stage {
+    fn tell(&mut self, capture: &mut Records<'_>, stage: Stage) -> Stage {
         let next = turns::take(
             self.output,
             &mut capture.input,
             capture.big_endian,
             &mut self.room,
-            &mut capture.records,
-            &mut capture.tags,
-            &mut capture.counts,
-            &mut capture.clock,
+            &mut capture.gateway,
             stage,
         );
         turns::written(next, self.write(Stream::Stdout, next.progress.put))
     }
 
     // A read, where one is wanted, and what is due, where it goes on.
-    fn turn(&mut self, capture: &mut Records, stage: Stage) -> Stage {
+    fn turn(&mut self, capture: &mut Records<'_>, stage: Stage) -> Stage {
         let next = self.refill(&mut capture.input, stage);
         if turns::goes_on(next) {
             self.tell(capture, next)
@@ -125,7 +120,7 @@ impl World {
     }
 
     // A proved loop has to end, and nothing says that standard input does. So the loop counts its turns, up to a number that no run uses up.
-    fn run(&mut self, capture: &mut Records, is_opened: bool) -> Stage {
+    fn run(&mut self, capture: &mut Records<'_>, is_opened: bool) -> Stage {
         let mut stage = turns::first(is_opened);
         for _ in 0..u64::MAX {
             if !turns::goes_on(stage) {
@@ -164,16 +159,17 @@ impl World {
     // Replays a capture whose header was read.
     fn replay_records(&mut self, big_endian: bool, is_opened: bool) {
         let input = [0; 262144];
-        let records = [0; 4096];
-        let tags = [0; 1024];
-        let counts = [i16::MIN; 1024];
+        let gateway = Gateway {
+            placing: replay::program_placing(),
+            records: &mut [0; 4096],
+            tags: &mut [0; 1024],
+            counts: &mut [i16::MIN; 1024],
+            clock: &mut 0,
+        };
         let mut capture = Records {
             input,
             big_endian,
-            records,
-            tags,
-            counts,
-            clock: 0,
+            gateway,
         };
         let stage = self.run(&mut capture, is_opened);
         self.end(stage);

@@ -39,12 +39,12 @@ fn wanted(rt: &HostRuntime) -> Result<Output, BadArguments> {
     }
     let length = match rt.arg(1, &mut argument) {
         Ok(length) => length,
-        Err(FillError::NotPresent) => return Ok(Output::Reasons(0)),
+        Err(FillError::NotPresent) => return Ok(Output::Reasons(None)),
         Err(FillError::TooLong) => return Err(BadArguments::NoNumber),
     };
     match arguments::record_number(&argument[..length]) {
         0 => Err(BadArguments::NoNumber),
-        number => Ok(Output::Reasons(number)),
+        number => Ok(Output::Reasons(Some(number))),
     }
 }
 
