@@ -52,20 +52,24 @@ use Rattle.feeding.specs.Feeding.{replayed_of}
 use Rattle.frames.proofs.judge.Reads as frames_judge
 use Rattle.frames.proofs.what_is_in.Reads as frames_what_is_in
 use Rattle.frames.proofs.why.Reads as frames_why
-use Rattle.gateway.proofs.cold_start.Reads as gateway_cold_start
-use Rattle.gateway.proofs.judge.Reads as gateway_judge
-use Rattle.gateway.proofs.pass.Reads as gateway_pass
-use Rattle.gateway.proofs.why.Reads as gateway_why
-use Rattle.gateway.specs.Calls.{left_state}
+use Rattle.gateway.proofs.Gateway.judge.Reads as gateway_gateway_judge
+use Rattle.gateway.proofs.Gateway.pass.Reads as gateway_gateway_pass
+use Rattle.gateway.proofs.Gateway.start.Reads as gateway_gateway_start
+use Rattle.gateway.proofs.Gateway.view.Reads as gateway_gateway_view
+use Rattle.gateway.proofs.View.why.Reads as gateway_view_why
+use Rattle.gateway.specs.Calls.{after_call}
 use Rattle.gateway.specs.Calls.{left}
-use Rattle.lines.proofs.put_byte.Reads as lines_put_byte
-use Rattle.lines.proofs.put_decimal.Reads as lines_put_decimal
-use Rattle.lines.proofs.put_dotted.Reads as lines_put_dotted
-use Rattle.lines.proofs.put_last_line.Reads as lines_put_last_line
-use Rattle.lines.proofs.put_line.Reads as lines_put_line
-use Rattle.lines.proofs.put_signed.Reads as lines_put_signed
-use Rattle.lines.proofs.put_text.Reads as lines_put_text
+use Rattle.gateway.specs.Calls.{seen_in}
+use Rattle.gateway.specs.Calls.{state_in}
+use Rattle.lines.proofs.Room.byte.Reads as lines_room_byte
+use Rattle.lines.proofs.Room.decimal.Reads as lines_room_decimal
+use Rattle.lines.proofs.Room.dotted.Reads as lines_room_dotted
+use Rattle.lines.proofs.Room.last_line.Reads as lines_room_last_line
+use Rattle.lines.proofs.Room.line.Reads as lines_room_line
+use Rattle.lines.proofs.Room.signed.Reads as lines_room_signed
+use Rattle.lines.proofs.Room.text.Reads as lines_room_text
 use Rattle.lines.specs.Room.{left_room}
+use Rattle.lines.specs.Rooms.{room_in}
 use Rattle.outputs.proofs.asks_why.Reads as outputs_asks_why
 use Rattle.outputs.proofs.put_opening.Reads as outputs_put_opening
 use Rattle.outputs.proofs.put_told.Reads as outputs_put_told
@@ -86,7 +90,7 @@ use Rattle.refusals.proofs.of_packet.Reads as refusals_of_packet
 use Rattle.refusals.proofs.of_start.Reads as refusals_of_start
 use Rattle.refusals.proofs.of_time.Reads as refusals_of_time
 use Rattle.replay.proofs.next.Reads as replay_next
-use Rattle.replay.specs.Replay.{program_placing}
+use Rattle.replay.proofs.program_placing.Reads as replay_program_placing
 use Rattle.rulings.proofs.ruling_of.Reads as rulings_ruling_of
 use Rattle.settings.proofs.Limits.is_bad.Reads as settings_limits_is_bad
 use Rattle.settings.proofs.Settings.factory.Reads as settings_settings_factory
@@ -101,7 +105,7 @@ use Rattle.streams.proofs.within.Reads as streams_within
 use Rattle.streams.specs.Streams.{held_of}
 use Rattle.tables.proofs.clock.multiples_passed.Reads as tables_clock_multiples_passed
 use Rattle.tables.proofs.clock.pass.Reads as tables_clock_pass
-use Rattle.tables.proofs.sizes.bad_sizes.Reads as tables_sizes_bad_sizes
+use Rattle.tables.proofs.sizes.Sizes.are_bad.Reads as tables_sizes_sizes_are_bad
 use Rattle.tables.specs.Clock.{timed_of}
 use Rattle.tables.specs.Tables.{left_tables}
 use Rattle.tally.proofs.Tally.empty.Reads as tally_tally_empty
@@ -283,8 +287,8 @@ tables_clock_multiples_passed_one κs a x y s t p q = same p q
 pub tables_clock_pass_one : (κs : _) (a : _) → One (tables_clock_pass.Learnt κs a) (λ x s. timed_of s.0.now s.1.0.now s.1.1.0.now)
 tables_clock_pass_one κs a x y s t p q = same p q
 
-pub tables_sizes_bad_sizes_one : (κs : _) (a : _) → One (tables_sizes_bad_sizes.Learnt κs a) (λ x s. x)
-tables_sizes_bad_sizes_one κs a x y s t p q = same p q
+pub tables_sizes_sizes_are_bad_one : (κs : _) (a : _) → One (tables_sizes_sizes_are_bad.Learnt κs a) (λ x s. x)
+tables_sizes_sizes_are_bad_one κs a x y s t p q = same p q
 
 pub verdicts_number_one : (κs : _) (a : _) → One (verdicts_number.Learnt κs a) (λ x s. x)
 verdicts_number_one κs a x y s t p q = same p q
@@ -304,32 +308,32 @@ reasons_report_one κs a x y s t p q = same p q
 pub rulings_ruling_of_one : (κs : _) (a : _) → One (rulings_ruling_of.Learnt κs a) (λ x s. x)
 rulings_ruling_of_one κs a x y s t p q = same p q
 
-pub lines_put_byte_one : (κs : _) (a : _) → One (lines_put_byte.Learnt κs a) (λ x s. left_room (both s.0) x)
-lines_put_byte_one κs a x y s t p q = same p q
+pub lines_room_byte_one : (κs : _) (a : _) → One (lines_room_byte.Learnt κs a) (λ x s. room_in s.0.now)
+lines_room_byte_one κs a x y s t p q = same p.1 q.1
 
-pub lines_put_text_one : (κs : _) (a : _) → One (lines_put_text.Learnt κs a) (λ x s. left_room (both s.0) x)
-lines_put_text_one κs a x y s t p q = same p q
+pub lines_room_text_one : (κs : _) (a : _) → One (lines_room_text.Learnt κs a) (λ x s. room_in s.0.now)
+lines_room_text_one κs a x y s t p q = same p.1 q.1
 
-pub lines_put_decimal_one : (κs : _) (a : _) → One (lines_put_decimal.Learnt κs a) (λ x s. left_room (both s.0) x)
-lines_put_decimal_one κs a x y s t p q = same p q
+pub lines_room_decimal_one : (κs : _) (a : _) → One (lines_room_decimal.Learnt κs a) (λ x s. room_in s.0.now)
+lines_room_decimal_one κs a x y s t p q = same p.1 q.1
 
-pub lines_put_signed_one : (κs : _) (a : _) → One (lines_put_signed.Learnt κs a) (λ x s. left_room (both s.0) x)
-lines_put_signed_one κs a x y s t p q = same p q
+pub lines_room_signed_one : (κs : _) (a : _) → One (lines_room_signed.Learnt κs a) (λ x s. room_in s.0.now)
+lines_room_signed_one κs a x y s t p q = same p.1 q.1
 
-pub lines_put_dotted_one : (κs : _) (a : _) → One (lines_put_dotted.Learnt κs a) (λ x s. left_room (both s.0) x)
-lines_put_dotted_one κs a x y s t p q = same p q
+pub lines_room_dotted_one : (κs : _) (a : _) → One (lines_room_dotted.Learnt κs a) (λ x s. room_in s.0.now)
+lines_room_dotted_one κs a x y s t p q = same p.1 q.1
 
-pub lines_put_line_one : (κs : _) (a : _) → One (lines_put_line.Learnt κs a) (λ x s. left_room (both s.0) x)
-lines_put_line_one κs a x y s t p q = same p q
+pub lines_room_line_one : (κs : _) (a : _) → One (lines_room_line.Learnt κs a) (λ x s. room_in s.0.now)
+lines_room_line_one κs a x y s t p q = same p.1 q.1
 
-pub lines_put_last_line_one : (κs : _) (a : _) → One (lines_put_last_line.Learnt κs a) (λ x s. left_room (both s.0) x)
-lines_put_last_line_one κs a x y s t p q = same p q
+pub lines_room_last_line_one : (κs : _) (a : _) → One (lines_room_last_line.Learnt κs a) (λ x s. room_in s.0.now)
+lines_room_last_line_one κs a x y s t p q = same p.1 q.1
 
 pub arguments_record_number_one : (κs : _) (a : _) → One (arguments_record_number.Learnt κs a) (λ x s. x)
 arguments_record_number_one κs a x y s t p q = same p q
 
-pub explanations_put_asked_one : (κs : _) (a : _) → One (explanations_put_asked.Learnt κs a) (λ x s. left_room (both s.0) x)
-explanations_put_asked_one κs a x y s t p q = same p q
+pub explanations_put_asked_one : (κs : _) (a : _) → One (explanations_put_asked.Learnt κs a) (λ x s. room_in s.0.now)
+explanations_put_asked_one κs a x y s t p q = same p.1 q.1
 
 pub cold_fill_one : (κs : _) (a : _) → One (cold_fill.Learnt κs a) (λ x s. left_tables (both s.0) (both s.1.0) (both s.1.1.0))
 cold_fill_one κs a x y s t p q = same p q
@@ -343,17 +347,20 @@ refusals_of_time_one κs a x y s t p q = same p q
 pub refusals_of_packet_one : (κs : _) (a : _) → One (refusals_of_packet.Learnt κs a) (λ x s. x)
 refusals_of_packet_one κs a x y s t p q = same p q
 
-pub gateway_cold_start_one : (κs : _) (a : _) → One (gateway_cold_start.Learnt κs a) (λ x s. left x.placing (both s.1.0) (both s.1.1.0) (both s.1.1.1.0) (both s.1.1.1.1.0) x.reply)
-gateway_cold_start_one κs a x y s t p q = same p q
+pub gateway_gateway_start_one : (κs : _) (a : _) → One (gateway_gateway_start.Learnt κs a) (λ x s. after_call x (state_in s.0.now))
+gateway_gateway_start_one κs a x y s t p q = same p.1 q.1
 
-pub gateway_pass_one : (κs : _) (a : _) → One (gateway_pass.Learnt κs a) (λ x s. left a.0 (both s.1.0) (both s.1.1.0) (both s.1.1.1.0) (both s.1.1.1.1.0) x)
-gateway_pass_one κs a x y s t p q = same p q
+pub gateway_gateway_pass_one : (κs : _) (a : _) → One (gateway_gateway_pass.Learnt κs a) (λ x s. after_call x (state_in s.0.now))
+gateway_gateway_pass_one κs a x y s t p q = same p.1 q.1
 
-pub gateway_judge_one : (κs : _) (a : _) → One (gateway_judge.Learnt κs a) (λ x s. left a.0 (both s.1.1.1.0) (both s.1.1.1.1.0) (both s.1.1.1.1.1.0) (both s.1.1.1.1.1.1.0) x)
-gateway_judge_one κs a x y s t p q = same p q
+pub gateway_gateway_judge_one : (κs : _) (a : _) → One (gateway_gateway_judge.Learnt κs a) (λ x s. after_call x (state_in s.0.now))
+gateway_gateway_judge_one κs a x y s t p q = same p.1 q.1
 
-pub gateway_why_one : (κs : _) (a : _) → One (gateway_why.Learnt κs a) (λ x s. x)
-gateway_why_one κs a x y s t p q = same p q
+pub gateway_gateway_view_one : (κs : _) (a : _) → One (gateway_gateway_view.Learnt κs a) (λ x s. seen_in x)
+gateway_gateway_view_one κs a x y s t p q = same p q
+
+pub gateway_view_why_one : (κs : _) (a : _) → One (gateway_view_why.Learnt κs a) (λ x s. x)
+gateway_view_why_one κs a x y s t p q = same p q
 
 pub tally_tally_empty_one : (κs : _) (a : _) → One (tally_tally_empty.Learnt κs a) (λ x s. x)
 tally_tally_empty_one κs a x y s t p q = same p q
@@ -367,35 +374,38 @@ tally_tally_with_one κs a x y s t p q = same p q
 pub frames_what_is_in_one : (κs : _) (a : _) → One (frames_what_is_in.Learnt κs a) (λ x s. x)
 frames_what_is_in_one κs a x y s t p q = same p q
 
-pub frames_judge_one : (κs : _) (a : _) → One (frames_judge.Learnt κs a) (λ x s. left a.0 (both s.1.1.1.0) (both s.1.1.1.1.0) (both s.1.1.1.1.1.0) (both s.1.1.1.1.1.1.0) x)
-frames_judge_one κs a x y s t p q = same p q
+pub frames_judge_one : (κs : _) (a : _) → One (frames_judge.Learnt κs a) (λ x s. after_call x (state_in s.0.now))
+frames_judge_one κs a x y s t p q = same p.1 q.1
 
 pub frames_why_one : (κs : _) (a : _) → One (frames_why.Learnt κs a) (λ x s. x)
 frames_why_one κs a x y s t p q = same p q
 
-pub replay_next_one : (κs : _) (a : _) → One (replay_next.Learnt κs a) (λ x s. left program_placing (both s.1.1.1.1.0) (both s.1.1.1.1.1.0) (both s.1.1.1.1.1.1.0) (both s.1.1.1.1.1.1.1.0) x)
-replay_next_one κs a x y s t p q = same p q
+pub replay_program_placing_one : (κs : _) (a : _) → One (replay_program_placing.Learnt κs a) (λ x s. x)
+replay_program_placing_one κs a x y s t p q = same p q
+
+pub replay_next_one : (κs : _) (a : _) → One (replay_next.Learnt κs a) (λ x s. after_call x (state_in s.1.1.1.1.0.now))
+replay_next_one κs a x y s t p q = same p.1 q.1
 
 pub outputs_asks_why_one : (κs : _) (a : _) → One (outputs_asks_why.Learnt κs a) (λ x s. x)
 outputs_asks_why_one κs a x y s t p q = same p q
 
-pub outputs_put_told_one : (κs : _) (a : _) → One (outputs_put_told.Learnt κs a) (λ x s. left_room (both s.1.0) x)
-outputs_put_told_one κs a x y s t p q = same p q
+pub outputs_put_told_one : (κs : _) (a : _) → One (outputs_put_told.Learnt κs a) (λ x s. room_in s.1.0.now)
+outputs_put_told_one κs a x y s t p q = same p.1 q.1
 
-pub outputs_put_opening_one : (κs : _) (a : _) → One (outputs_put_opening.Learnt κs a) (λ x s. left_room (both s.1.0) x)
-outputs_put_opening_one κs a x y s t p q = same p q
+pub outputs_put_opening_one : (κs : _) (a : _) → One (outputs_put_opening.Learnt κs a) (λ x s. room_in s.1.0.now)
+outputs_put_opening_one κs a x y s t p q = same p.1 q.1
 
 pub endings_one_more_one : (κs : _) (a : _) → One (endings_one_more.Learnt κs a) (λ x s. x)
 endings_one_more_one κs a x y s t p q = same p q
 
-pub endings_put_ending_one : (κs : _) (a : _) → One (endings_put_ending.Learnt κs a) (λ x s. left_room (both s.0) x)
-endings_put_ending_one κs a x y s t p q = same p q
+pub endings_put_ending_one : (κs : _) (a : _) → One (endings_put_ending.Learnt κs a) (λ x s. room_in s.0.now)
+endings_put_ending_one κs a x y s t p q = same p.1 q.1
 
-pub endings_put_refused_header_one : (κs : _) (a : _) → One (endings_put_refused_header.Learnt κs a) (λ x s. left_room (both s.0) x)
-endings_put_refused_header_one κs a x y s t p q = same p q
+pub endings_put_refused_header_one : (κs : _) (a : _) → One (endings_put_refused_header.Learnt κs a) (λ x s. room_in s.0.now)
+endings_put_refused_header_one κs a x y s t p q = same p.1 q.1
 
-pub feeding_feed_one : (κs : _) (a : _) → One (feeding_feed.Learnt κs a) (λ x s. replayed_of x s.1.1.1.0.now (left_state program_placing (both s.1.1.1.1.0) (both s.1.1.1.1.1.0) (both s.1.1.1.1.1.1.0) (both s.1.1.1.1.1.1.1.0)))
-feeding_feed_one κs a x y s t p q = same p q
+pub feeding_feed_one : (κs : _) (a : _) → One (feeding_feed.Learnt κs a) (λ x s. replayed_of x s.1.1.1.0.now (state_in s.1.1.1.1.0.now))
+feeding_feed_one κs a x y s t p q = same p.1 q.1
 
 pub streams_shift_one : (κs : _) (a : _) → One (streams_shift.Learnt κs a) (λ x s. held_of x s.0.now)
 streams_shift_one κs a x y s t p q = same p q
@@ -442,8 +452,8 @@ turns_put_lost_one κs a x y s t p q = same p q
 pub turns_begin_one : (κs : _) (a : _) → One (turns_begin.Learnt κs a) (λ x s. beginning_of x s.1.1.0.now)
 turns_begin_one κs a x y s t p q = same p q
 
-pub turns_take_one : (κs : _) (a : _) → One (turns_take.Learnt κs a) (λ x s. turn_of x s.1.0.now s.1.1.1.0.now (left_state program_placing (both s.1.1.1.1.0) (both s.1.1.1.1.1.0) (both s.1.1.1.1.1.1.0) (both s.1.1.1.1.1.1.1.0)))
-turns_take_one κs a x y s t p q = same p q
+pub turns_take_one : (κs : _) (a : _) → One (turns_take.Learnt κs a) (λ x s. turn_of x s.1.0.now s.1.1.1.0.now (state_in s.1.1.1.1.0.now))
+turns_take_one κs a x y s t p q = same p.1 q.1
 
 pub embed_spritgrommet_factory_one : (κs : _) (a : _) → One (embed_spritgrommet_factory.Learnt κs a) (λ x s. x)
 embed_spritgrommet_factory_one κs a x y s t p q = same p q
