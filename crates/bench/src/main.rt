@@ -6,7 +6,6 @@
 mod edges;
 mod flags;
 mod inputs;
-mod lent;
 mod lines;
 mod packets;
 mod pairs;

@@ -1,10 +1,11 @@
 // Six runs over 4,096 records and 256 lines, with the factory settings and a cold start at second 100. Turns 1 to 4 are document 01's
 // session. Turns 5 to 28 are the incident: twelve plant machines poll one cell machine, nothing is heard for two hours, and then it sweeps
 // all twelve. The others are those of `flags`.
-use crate::lent::Lent;
 use crate::lines::Told;
 use crate::{flags, packets};
+use gateway::{Gateway, Site};
 use places::Placing;
+use refused::Refusal;
 use rulings::answers::Answer;
 use settings::Settings;
 use std::io;
@@ -45,26 +46,23 @@ fn time_of(turn: u8) -> u32 {
     }
 }
 
-fn judge(lent: &mut Lent<'_>, placing: Placing, turn: u8) -> Answer {
-    lent.judge(
-        placing,
-        &CELL_LIST,
-        &PLANT_LIST,
-        Settings::factory().limits,
-        time_of(turn),
-        &packet_of(turn),
-    )
+fn judge(gateway: &mut Gateway<'_>, turn: u8) -> Result<Answer, Refusal> {
+    let site = Site {
+        limits: Settings::factory().limits,
+        cell: &CELL_LIST,
+        plant: &PLANT_LIST,
+    };
+    gateway.judge(site, time_of(turn), &packet_of(turn))
 }
 
 fn judge_turns<W: Write>(
     out: &mut W,
-    lent: &mut Lent<'_>,
-    placing: Placing,
+    gateway: &mut Gateway<'_>,
     turns: Range<u8>,
 ) -> io::Result<Tally> {
     let mut tally = Tally::empty();
     for turn in turns {
-        let answer = judge(lent, placing, turn);
+        let answer = judge(gateway, turn);
         writeln!(out, "{turn} {}", Told::Packet(answer))?;
         tally = tally.with(answer);
     }
@@ -79,16 +77,17 @@ fn print_tally<W: Write>(out: &mut W, tally: Tally) -> io::Result<()> {
     writeln!(out)
 }
 
-// The tables hold other things before the cold start, so that it has work to do.
+// Keys, tables and clock hold other things before the cold start, so that it has work to do.
 fn run_turns<W: Write>(out: &mut W, turns: Range<u8>) -> io::Result<()> {
-    let mut lent = Lent {
+    let mut gateway = Gateway {
+        placing: Placing { keys: [1; 8] },
         records: &mut [255; 4096],
         tags: &mut [7; 1024],
         counts: &mut [9; 1024],
         clock: &mut 4000000000,
     };
-    let started = lent.cold_start(Settings::factory(), 100);
-    let tally = judge_turns(out, &mut lent, started.placing, turns)?;
+    let _ = gateway.start(Settings::factory(), 100);
+    let tally = judge_turns(out, &mut gateway, turns)?;
     print_tally(out, tally)
 }
 

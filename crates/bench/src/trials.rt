@@ -1,9 +1,9 @@
 // A trial: one call of the gateway over small tables, good as it stands until inputs of it are changed. Its line names the call and what
 // was changed, and then tells what was answered and whether every byte and number of tables and clock is as before.
 use crate::inputs::{Call, Change};
-use crate::lent::Lent;
 use crate::lines::Told;
 use crate::packets;
+use gateway::{Gateway, Site};
 use places::Placing;
 use settings::{Limits, Settings};
 use std::io;
@@ -132,24 +132,27 @@ fn answer_to(call: Call, trial: Trial, tables: &mut Tables) -> Told {
         ..Settings::factory()
     };
     let keys = set.keys;
-    let placing = Placing { keys };
-    let mut lent = Lent {
+    let mut gateway = Gateway {
+        placing: Placing { keys },
         records: first(&mut tables.records, trial.records),
         tags: first(&mut tables.tags, trial.tags),
         counts: first(&mut tables.counts, trial.counts),
         clock: &mut tables.clock,
     };
     match call {
-        Call::Judge => Told::Packet(lent.judge(
-            placing,
-            first(&mut side_list(10, 0, trial.cell_bits), trial.cell),
-            first(&mut side_list(192, 168, trial.plant_bits), trial.plant),
-            trial.limits,
-            trial.time,
-            first(&mut trial.packet(), trial.bytes),
-        )),
-        Call::Pass => Told::Other(lent.pass(placing, trial.limits, trial.time)),
-        Call::Start => Told::Other(lent.cold_start(set, trial.time).reply),
+        Call::Judge => {
+            let mut cell = side_list(10, 0, trial.cell_bits);
+            let mut plant = side_list(192, 168, trial.plant_bits);
+            let mut packet = trial.packet();
+            let site = Site {
+                limits: trial.limits,
+                cell: first(&mut cell, trial.cell),
+                plant: first(&mut plant, trial.plant),
+            };
+            Told::Packet(gateway.judge(site, trial.time, first(&mut packet, trial.bytes)))
+        }
+        Call::Pass => Told::Other(gateway.pass(trial.limits, trial.time)),
+        Call::Start => Told::Other(gateway.start(set, trial.time)),
     }
 }
 
