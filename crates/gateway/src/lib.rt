@@ -124,11 +124,7 @@ impl Gateway<'_> {
     fn sizes(&self) -> Sizes
         ensures { result ≡ sizes_of (state_in self.now).tables }
     {
-        Sizes {
-            records: self.records.len(),
-            tags: self.tags.len(),
-            counts: self.counts.len(),
-        }
+        self.view().sizes()
     }
 
     // Starts cold: every record and tag 0, every count -32,768, the clock at the time, and from then on the settings' keys. It is refused by
