@@ -1,19 +1,19 @@
 -- The refusal that plain numbers tell of a capture is the paper's number of the answer.
 -- Assumes nothing.
 use mathlib.Core.Path.{◌≡◌, refl}
-use Rattle.capture.specs.declared.Opened.{Opened}
-use Rattle.capture.specs.declared.Opened.TheVariants as opened
+use Prim.Native.Nat.{ℕ}
+use Rattle.std.specs.Prelude.{Result, Ok, Err}
+use Rattle.refused.specs.declared.Refusal.{Refusal}
+use Rattle.refused.specs.Refused.{refusal_in}
+use Rattle.capture.specs.declared.Cursor.{Cursor}
 use Rattle.capture.specs.declared.Reading.{Reading}
 use Rattle.capture.specs.declared.Reading.TheVariants as reading
-use Rattle.capture.specs.declared.Written.{Written}
-use Rattle.capture.specs.declared.Written.TheVariants as written
-use Rattle.capture.specs.Capture.{open_refusal, record_refusal}
-use Rattle.capture.specs.Writing.{write_refusal}
+use Rattle.capture.specs.Capture.{record_refusal}
 use Rattle.embed.specs.Plain.{plain_opening, plain_next, plain_written}
 
-pub opening_told : (answer : Opened) → (plain_opening answer).refusal ≡ open_refusal answer
-opening_told (opened.Refused number) = refl
-opening_told (opened.Open cursor) = refl
+pub opening_told : (answer : Result Cursor Refusal) → (plain_opening answer).refusal ≡ refusal_in answer
+opening_told (Err refusal) = refl
+opening_told (Ok cursor) = refl
 
 pub next_told : (answer : Reading) → (plain_next answer).refusal ≡ record_refusal answer
 next_told reading.End = refl
@@ -21,6 +21,6 @@ next_told reading.Cut = refl
 next_told reading.Long = refl
 next_told (reading.Whole read) = refl
 
-pub written_told : (answer : Written) → (plain_written answer).refusal ≡ write_refusal answer
-written_told (written.Refused number) = refl
-written_told (written.Next next) = refl
+pub written_told : (answer : Result ℕ Refusal) → (plain_written answer).refusal ≡ refusal_in answer
+written_told (Err refusal) = refl
+written_told (Ok next) = refl

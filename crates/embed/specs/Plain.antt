@@ -1,50 +1,41 @@
 -- Answers as plain numbers, for programs in C and Rust. A number that an answer does not have is 0.
 -- Assumes nothing.
-use Rattle.std.specs.Prelude.{false, List, ℕ, zero, suc, ℤ, pos, Option, Some, None}
-use Rattle.rulings.specs.declared.answers.Replacement.{Replacement}
-use Rattle.rulings.specs.declared.answers.Replacement.TheVariants.{None, Address}
+use Rattle.std.specs.Prelude.{false, List, ℕ, zero, suc, ℤ, pos, Option, None, Some, Result, Ok, Err}
+use Rattle.refused.specs.declared.Refusal.{Refusal}
+use Rattle.refused.specs.Refused.{refusal_number}
 use Rattle.rulings.specs.declared.answers.Answer.{Answer}
-use Rattle.rulings.specs.declared.answers.Answer.TheVariants.{Refused, NotOurs, Judged}
+use Rattle.rulings.specs.declared.answers.Answer.TheVariants.{NotOurs, Judged}
 use Rattle.verdicts.specs.Verdicts.{number_of}
 use Rattle.sides.specs.declared.Side.{Side}
 use Rattle.sides.specs.declared.Side.TheVariants.{Cell, Plant, Neither}
 use Rattle.sides.specs.declared.Winning.{Winning}
-use Rattle.capture.specs.declared.Opened.{Opened}
-use Rattle.capture.specs.declared.Opened.TheVariants as opened
+use Rattle.capture.specs.declared.Cursor.{Cursor}
 use Rattle.capture.specs.declared.Reading.{Reading}
 use Rattle.capture.specs.declared.Reading.TheVariants as reading
-use Rattle.capture.specs.declared.Written.{Written}
-use Rattle.capture.specs.declared.Written.TheVariants as written
 use Rattle.capture.specs.Writing.{Put}
-use Rattle.gateway.specs.declared.Started.{Started}
-use Rattle.gateway.specs.Calls.{After, refusal_in}
+use Rattle.gateway.specs.Calls.{After}
 use Rattle.tally.specs.Tally.{verdict_numbered}
 use Rattle.embed.specs.declared.plain.PlainAnswer.{PlainAnswer}
 use Rattle.embed.specs.declared.plain.PlainWinner.{PlainWinner}
 use Rattle.embed.specs.declared.plain.PlainOpening.{PlainOpening}
 use Rattle.embed.specs.declared.plain.PlainNext.{PlainNext}
-use Rattle.embed.specs.declared.plain.PlainStarted.{PlainStarted}
 use Rattle.embed.specs.declared.plain.PlainWritten.{PlainWritten}
 
 -- what a call leaves, with its answer in plain numbers
 abbrev pub plainly : {A B : Type 0} → (A → B) → After A → After B
 plainly plain after = record { answer = plain after.answer; state = after.state }
 
--- the answer to a start: its refusal's number, or 0 and what places packets
-abbrev pub plain_started : Started → PlainStarted
-plain_started started = record { refusal = refusal_in started.reply; placing = started.placing }
-
 -- ---- the answer to a packet
-abbrev pub plain_judged : ℕ → ℤ → Replacement → PlainAnswer
+abbrev pub plain_judged : ℕ → ℤ → Option ℕ → PlainAnswer
 plain_judged verdict count None = record { refusal = 0; verdict = verdict; count = count; replaced = 0; address = 0 }
-plain_judged verdict count (Address address) = record { refusal = 0; verdict = verdict; count = count; replaced = 1; address = address }
+plain_judged verdict count (Some address) = record { refusal = 0; verdict = verdict; count = count; replaced = 1; address = address }
 
 -- "The answer of a refusal is its number alone." "The answer holds the verdict, the address's count after it, and the replaced address,
 -- if any". "Verdict 0 has no count."
-abbrev pub plain_answer : Answer → PlainAnswer
-plain_answer (Refused number) = record { refusal = number; verdict = 0; count = pos 0; replaced = 0; address = 0 }
-plain_answer NotOurs = record { refusal = 0; verdict = 0; count = pos 0; replaced = 0; address = 0 }
-plain_answer (Judged verdict count replaced) = plain_judged (number_of verdict) count replaced
+abbrev pub plain_answer : Result Answer Refusal → PlainAnswer
+plain_answer (Err refusal) = record { refusal = refusal_number refusal; verdict = 0; count = pos 0; replaced = 0; address = 0 }
+plain_answer (Ok NotOurs) = record { refusal = 0; verdict = 0; count = pos 0; replaced = 0; address = 0 }
+plain_answer (Ok (Judged verdict count replaced)) = plain_judged (number_of verdict) count replaced
 
 -- ---- the tally
 -- the verdict that an answer in plain numbers tells, whoever wrote it
@@ -66,9 +57,9 @@ plain_winner (Some winning) = record { side = side_number winning.side; number =
 plain_winner None = record { side = 0; number = 0 }
 
 -- ---- captures
-abbrev pub plain_opening : Opened → PlainOpening
-plain_opening (opened.Refused number) = record { refusal = number; cursor = record { at = 0; big_endian = false } }
-plain_opening (opened.Open cursor) = record { refusal = 0; cursor = cursor }
+abbrev pub plain_opening : Result Cursor Refusal → PlainOpening
+plain_opening (Err refusal) = record { refusal = refusal_number refusal; cursor = record { at = 0; big_endian = false } }
+plain_opening (Ok cursor) = record { refusal = 0; cursor = cursor }
 
 abbrev pub no_record : ℕ → PlainNext
 no_record refusal =
@@ -86,9 +77,9 @@ plain_next reading.Long = no_record 8
 plain_next (reading.Whole read) = record { refusal = 0; whole = 1; read = read }
 
 -- refusals 8 and 9, or the place after what was written
-abbrev pub plain_written : Written → PlainWritten
-plain_written (written.Refused number) = record { refusal = number; next = 0 }
-plain_written (written.Next next) = record { refusal = 0; next = next }
+abbrev pub plain_written : Result ℕ Refusal → PlainWritten
+plain_written (Err refusal) = record { refusal = refusal_number refusal; next = 0 }
+plain_written (Ok next) = record { refusal = 0; next = next }
 
 -- what a call that writes leaves, with its answer in plain numbers
 pub record PlainPut : Type 0 where

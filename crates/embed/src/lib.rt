@@ -1,6 +1,7 @@
 // The gateway's calls over plain numbers and lent memory, for programs in C and Rust: `embed_c` makes their archive. include/spritgrommet.h
 // says what each of them does and answers. Each function hands on to the crate that does the work; only that a short frame is refused by 5
 // and a bad record by 8 is said here again.
+// Kept: the C interface has no struct that holds lent memory, so that what a gateway and a site are is lent to each call part by part.
 #![tactic(auto)]
 
 ghost use Rattle.std.specs.Prelude.{◌≡◌};
@@ -11,7 +12,8 @@ ghost use Rattle.sides.specs.Lists.{winning_of};
 ghost use Rattle.capture.specs.Capture.{opened_of, next_of};
 ghost use Rattle.capture.specs.Format.{content_of};
 ghost use Rattle.capture.specs.Writing.{header_put, record_put};
-ghost use Rattle.gateway.specs.Calls.{lent, left, refusal_in, no_placing, started, passed, judged};
+ghost use Rattle.refused.specs.Refused.{refusal_in};
+ghost use Rattle.gateway.specs.Calls.{lent, left, no_placing, started, passed, judged};
 ghost use Rattle.frames.specs.Frames.{frame_judged};
 ghost use Rattle.tally.specs.Tally.{tallied};
 ghost use Rattle.embed.specs.Plain.{plainly, plain_answer, plain_winner, plain_opening, plain_next, plain_put_of, plain_put, verdict_in};
@@ -20,8 +22,10 @@ pub mod plain;
 
 use capture::Cursor;
 use frames::Inside;
+use gateway::{Gateway, Site};
 use places::Placing;
 use plain::{PlainAnswer, PlainNext, PlainOpening, PlainStarted, PlainWinner, PlainWritten};
+use refused::Refusal;
 use rulings::answers::Answer;
 use settings::{Limits, Settings};
 use tally::Tally;
@@ -45,7 +49,18 @@ pub fn spritgrommet_cold_start(
     ensures { left result.placing records tags counts clock result.refusal
         ≡ plainly refusal_in (started set time (lent no_placing records tags counts clock)) }
 {
-    plain::of_started(gateway::cold_start(set, records, tags, counts, clock, time))
+    let mut gateway = Gateway {
+        placing: Placing { keys: [0; 8] },
+        records,
+        tags,
+        counts,
+        clock,
+    };
+    let reply = gateway.start(set, time);
+    PlainStarted {
+        refusal: plain::of_reply(reply),
+        placing: gateway.placing,
+    }
 }
 
 // Passes a time, with no packet. The answer is the number of the refusal, or 0.
@@ -61,7 +76,14 @@ pub fn spritgrommet_pass(
     ensures { left placing records tags counts clock result
         ≡ plainly refusal_in (passed (rules_of limits) limits time (lent placing records tags counts clock)) }
 {
-    let reply = gateway::pass(placing, records, tags, counts, clock, limits, time);
+    let mut gateway = Gateway {
+        placing,
+        records,
+        tags,
+        counts,
+        clock,
+    };
+    let reply = gateway.pass(limits, time);
     plain::of_reply(reply)
 }
 
@@ -83,13 +105,24 @@ pub fn spritgrommet_judge(
         (judged (rules_of limits) limits cell.now plant.now time packet.now
         (lent placing records tags counts clock)) }
 {
-    let answer = gateway::judge(
-        placing, cell, plant, records, tags, counts, clock, limits, time, packet,
-    );
-    plain::of_answer(answer)
+    let mut gateway = Gateway {
+        placing,
+        records,
+        tags,
+        counts,
+        clock,
+    };
+    let site = Site {
+        limits,
+        cell,
+        plant,
+    };
+    let answer = gateway.judge(site, time, packet);
+    PlainAnswer::from(answer)
 }
 
 // Judges what an Ethernet frame that comes at a time carries. The answer is as for a packet.
+#[tactic(auto, using(frames::proofs::Cases::has_header), unfolding(frames::specs::Frames::frame_judged))]
 pub fn spritgrommet_judge_frame(
     placing: Placing,
     cell: &[u8],
@@ -108,7 +141,7 @@ pub fn spritgrommet_judge_frame(
         (lent placing records tags counts clock)) }
 {
     match frames::what_is_in(frame) {
-        Inside::Short => plain::of_answer(Answer::Refused(5)),
+        Inside::Short => PlainAnswer::from(Err(Refusal::Short)),
         // By `spritgrommet_judge`, and not by `frames::judge`, so that the archive has the judge once, in the function that is called for
         // every packet.
         Inside::Packet => {
@@ -117,7 +150,7 @@ pub fn spritgrommet_judge_frame(
                 placing, cell, plant, records, tags, counts, clock, limits, time, carried,
             )
         }
-        Inside::Other => plain::of_answer(Answer::NotOurs),
+        Inside::Other => PlainAnswer::from(Ok(Answer::NotOurs)),
     }
 }
 
@@ -125,7 +158,7 @@ pub fn spritgrommet_judge_frame(
 pub fn spritgrommet_winner(cell: &[u8], plant: &[u8], address: u32) -> PlainWinner
     ensures { result ≡ plain_winner (winning_of cell.now plant.now address) }
 {
-    plain::of_winning(sides::winning_entry(cell, plant, address))
+    PlainWinner::from(sides::winning_entry(cell, plant, address))
 }
 
 // The address permutation E of a word, under eight round keys.
@@ -153,21 +186,21 @@ pub fn spritgrommet_tally(tally: &mut Tally, answer: PlainAnswer)
 pub fn spritgrommet_open(bytes: &[u8]) -> PlainOpening
     ensures { result ≡ plain_opening (opened_of bytes.now) }
 {
-    plain::of_opened(capture::open(bytes))
+    PlainOpening::from(capture::open(bytes))
 }
 
 // Reads the capture's record at a cursor. The answer is refusal 8, that no byte is left, or the record.
 pub fn spritgrommet_next(bytes: &[u8], cursor: Cursor) -> PlainNext
     ensures { result ≡ plain_next (next_of bytes.now cursor) }
 {
-    plain::of_reading(capture::next(bytes, cursor))
+    PlainNext::from(capture::next(bytes, cursor))
 }
 
 // Writes a capture's header into the room at a place. The answer is refusal 9, or the place of the first record.
 pub fn spritgrommet_put_header(room: &mut [u8], at: usize) -> PlainWritten
     ensures { plain_put_of result room.new ≡ plain_put (header_put at room.old) }
 {
-    plain::of_written(capture::put_header(room, at))
+    PlainWritten::from(capture::put_header(room, at))
 }
 
 // Writes a record into the room at a place. The answer is refusal 8 or 9, or the place of the next record.
@@ -183,5 +216,5 @@ pub fn spritgrommet_put_record(
         ≡ plain_put (record_put (content_of seconds microseconds original frame.now) at room.old) }
 {
     let written = capture::put_record(room, at, seconds, microseconds, original, frame);
-    plain::of_written(written)
+    PlainWritten::from(written)
 }

@@ -1,13 +1,14 @@
 // Answers as plain numbers, laid out as C does. A number that an answer does not have is 0.
+// Kept: the C interface (include/spritgrommet.h) needs these structs, with a number beside each answer in place of a Result or an Option.
 ghost use Rattle.std.specs.Prelude.{◌≡◌};
-ghost use Rattle.gateway.specs.Calls.{refusal_in};
+ghost use Rattle.refused.specs.Refused.{refusal_in};
 ghost use Rattle.tally.specs.Tally.{tallied};
-ghost use Rattle.embed.specs.Plain.{side_number, plain_started, plain_answer, plain_judged, plain_winner, plain_opening, no_record, plain_next, plain_written, verdict_in};
+ghost use Rattle.embed.specs.Plain.{plain_judged, plain_answer, plain_winner, plain_opening, no_record, plain_next, plain_written, verdict_in};
 
-use capture::{Cursor, Opened, Reading, Record, Written};
-use gateway::{Reply, Started};
+use capture::{Cursor, Reading, Record};
 use places::Placing;
-use rulings::answers::{Answer, Replacement};
+use refused::Refusal;
+use rulings::answers::Answer;
 use sides::{Side, Winning};
 use tally::Tally;
 
@@ -65,74 +66,58 @@ pub struct PlainNext {
     pub read: Record,
 }
 
+// The answer to a packet that gets verdict 0, from which each other differs.
+const NOT_OURS: PlainAnswer = PlainAnswer {
+    refusal: 0,
+    verdict: 0,
+    count: 0,
+    replaced: 0,
+    address: 0,
+};
+
 // The number of a reply's refusal, or 0.
-pub fn of_reply(reply: Reply) -> u8
+// Kept: a function, since neither Result nor u8 is a type of this crate, for which alone a From could stand here.
+pub fn of_reply(reply: Result<(), Refusal>) -> u8
     ensures { result ≡ refusal_in reply }
 {
     match reply {
-        Reply::Refused(number) => number,
-        Reply::Done => 0,
-    }
-}
-
-// The answer to a start in plain numbers.
-pub fn of_started(started: Started) -> PlainStarted
-    ensures { result ≡ plain_started started }
-{
-    let reply = started.reply;
-    let placing = started.placing;
-    PlainStarted {
-        refusal: of_reply(reply),
-        placing,
+        Err(refusal) => u8::from(refusal),
+        Ok(()) => 0,
     }
 }
 
 // A verdict on a packet of ours, and what belongs to it.
-fn of_judged(verdict: u8, count: i16, replaced: Replacement) -> PlainAnswer
+fn of_judged(verdict: u8, count: i16, replaced: Option<u32>) -> PlainAnswer
     ensures { result ≡ plain_judged verdict count replaced }
 {
-    match replaced {
-        Replacement::None => PlainAnswer {
-            refusal: 0,
-            verdict,
-            count,
-            replaced: 0,
-            address: 0,
-        },
-        Replacement::Address(address) => PlainAnswer {
-            refusal: 0,
-            verdict,
-            count,
-            replaced: 1,
-            address,
-        },
+    PlainAnswer {
+        verdict,
+        count,
+        replaced: u8::from(replaced.is_some()),
+        address: replaced.unwrap_or(0),
+        ..NOT_OURS
     }
 }
 
 // An answer in plain numbers; those that it does not have are 0.
-pub fn of_answer(answer: Answer) -> PlainAnswer
-    ensures { result ≡ plain_answer answer }
-{
-    match answer {
-        Answer::Refused(refusal) => PlainAnswer {
-            refusal,
-            verdict: 0,
-            count: 0,
-            replaced: 0,
-            address: 0,
-        },
-        Answer::NotOurs => PlainAnswer {
-            refusal: 0,
-            verdict: 0,
-            count: 0,
-            replaced: 0,
-            address: 0,
-        },
-        Answer::Judged {
-            verdict,
-            count,
-            replaced,
-        } => of_judged(verdicts::number(verdict), count, replaced),
+impl From<Result<Answer, Refusal>> for PlainAnswer {
+    ghost from_gives = { λ answer plain. plain ≡ plain_answer answer };
+
+    fn from(answer: Result<Answer, Refusal>) -> PlainAnswer {
+        match answer {
+            Err(refusal) => PlainAnswer {
+                refusal: u8::from(refusal),
+                ..NOT_OURS
+            },
+            Ok(Answer::NotOurs) => NOT_OURS,
+            Ok(
+                Answer::Judged {
+                    verdict,
+                    count,
+                    replaced,
+                },
+            ) => of_judged(verdicts::number(verdict), count, replaced),
+        }
     }
 }
 
@@ -146,53 +131,51 @@ pub fn tally_with(tally: Tally, answer: PlainAnswer) -> Tally
     tally.with_verdict(answer.verdict)
 }
 
-// What writing into a room answers, in plain numbers: the refusal, or 0 and the place after what was written.
-pub fn of_written(written: Written) -> PlainWritten
-    ensures { result ≡ plain_written written }
-{
-    match written {
-        Written::Refused(refusal) => PlainWritten { refusal, next: 0 },
-        Written::Next(next) => PlainWritten { refusal: 0, next },
+// The refusal, or 0 and the place after what was written.
+impl From<Result<usize, Refusal>> for PlainWritten {
+    ghost from_gives = { λ written plain. plain ≡ plain_written written };
+
+    fn from(written: Result<usize, Refusal>) -> PlainWritten {
+        let (refusal, next) = match written {
+            Err(refusal) => (u8::from(refusal), 0),
+            Ok(next) => (0, next),
+        };
+        PlainWritten { refusal, next }
     }
 }
 
-// The number of a side: 1 for the cell, 2 for the plant, 0 for neither.
-fn side_number(side: Side) -> u8
-    ensures { result ≡ side_number side }
-{
-    match side {
-        Side::Cell => 1,
-        Side::Plant => 2,
-        Side::Neither => 0,
+// Side 1 for the cell, 2 for the plant, and the number there; or twice 0.
+impl From<Option<Winning>> for PlainWinner {
+    ghost from_gives = { λ winning plain. plain ≡ plain_winner winning };
+
+    fn from(winning: Option<Winning>) -> PlainWinner {
+        let Some(Winning { side, number }) = winning else {
+            return PlainWinner { side: 0, number: 0 };
+        };
+        let side = match side {
+            Side::Cell => 1,
+            Side::Plant => 2,
+            Side::Neither => 0,
+        };
+        PlainWinner { side, number }
     }
 }
 
-// The place of a winning entry in plain numbers: side 1 or 2 and the number there, or twice 0.
-pub fn of_winning(winning: Option<Winning>) -> PlainWinner
-    ensures { result ≡ plain_winner winning }
-{
-    match winning {
-        Some(winning) => PlainWinner {
-            side: side_number(winning.side),
-            number: winning.number,
-        },
-        None => PlainWinner { side: 0, number: 0 },
-    }
-}
+// The refusal, or 0 and a cursor.
+impl From<Result<Cursor, Refusal>> for PlainOpening {
+    ghost from_gives = { λ opened plain. plain ≡ plain_opening opened };
 
-// What opening a capture answers, in plain numbers: the refusal, or 0 and a cursor.
-pub fn of_opened(opened: Opened) -> PlainOpening
-    ensures { result ≡ plain_opening opened }
-{
-    match opened {
-        Opened::Refused(refusal) => PlainOpening {
-            refusal,
-            cursor: Cursor {
-                at: 0,
-                big_endian: false,
+    fn from(opened: Result<Cursor, Refusal>) -> PlainOpening {
+        match opened {
+            Err(refusal) => PlainOpening {
+                refusal: u8::from(refusal),
+                cursor: Cursor {
+                    at: 0,
+                    big_endian: false,
+                },
             },
-        },
-        Opened::Open(cursor) => PlainOpening { refusal: 0, cursor },
+            Ok(cursor) => PlainOpening { refusal: 0, cursor },
+        }
     }
 }
 
@@ -214,18 +197,19 @@ fn no_record(refusal: u8) -> PlainNext
     }
 }
 
-// What reading a record answers, in plain numbers: a record that is cut off or too long is refused by 8.
-pub fn of_reading(reading: Reading) -> PlainNext
-    ensures { result ≡ plain_next reading }
-{
-    match reading {
-        Reading::End => no_record(0),
-        Reading::Cut => no_record(8),
-        Reading::Long => no_record(8),
-        Reading::Whole(read) => PlainNext {
-            refusal: 0,
-            whole: 1,
-            read,
-        },
+// A record that is cut off or too long is refused by 8.
+impl From<Reading> for PlainNext {
+    ghost from_gives = { λ reading plain. plain ≡ plain_next reading };
+
+    fn from(reading: Reading) -> PlainNext {
+        match reading {
+            Reading::End => no_record(0),
+            Reading::Cut | Reading::Long => no_record(u8::from(Refusal::Record)),
+            Reading::Whole(read) => PlainNext {
+                refusal: 0,
+                whole: 1,
+                read,
+            },
+        }
     }
 }

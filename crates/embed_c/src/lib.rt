@@ -1,5 +1,6 @@
 // The gateway's archive for programs in C and Rust: what `embed` does, under the names that they call. include/spritgrommet.h says what each
 // call does and answers. Each export hands on to `embed`, and states its contract again.
+// Kept: the C interface has no struct that holds lent memory, so that what a gateway and a site are is lent to each call part by part.
 #![tactic(auto)]
 
 ghost use Rattle.std.specs.Prelude.{◌≡◌};
@@ -10,7 +11,8 @@ ghost use Rattle.sides.specs.Lists.{winning_of};
 ghost use Rattle.capture.specs.Capture.{opened_of, next_of};
 ghost use Rattle.capture.specs.Format.{content_of};
 ghost use Rattle.capture.specs.Writing.{header_put, record_put};
-ghost use Rattle.gateway.specs.Calls.{lent, left, refusal_in, no_placing, started, passed, judged};
+ghost use Rattle.refused.specs.Refused.{refusal_in};
+ghost use Rattle.gateway.specs.Calls.{lent, left, no_placing, started, passed, judged};
 ghost use Rattle.frames.specs.Frames.{frame_judged};
 ghost use Rattle.tally.specs.Tally.{tallied};
 ghost use Rattle.embed.specs.Plain.{plainly, plain_answer, plain_winner, plain_opening, plain_next, plain_put_of, plain_put, verdict_in};

@@ -1,6 +1,8 @@
 -- Why a packet was dropped, as plain numbers, for programs in C and Rust. A number that an answer does not have is 0.
 -- Assumes nothing.
-use Rattle.std.specs.Prelude.{false, ℕ, pos}
+use Rattle.std.specs.Prelude.{false, ℕ, pos, Result, Ok, Err}
+use Rattle.refused.specs.declared.Refusal.{Refusal}
+use Rattle.refused.specs.Refused.{refusal_number}
 use Rattle.packet.specs.Kinds.{kind_number}
 use Rattle.sides.specs.declared.Entry.{Entry}
 use Rattle.verdicts.specs.Verdicts.{number_of}
@@ -49,8 +51,8 @@ plain_drop drop =
       plant_entry = drop.plant_entry;
     }
 
-abbrev pub plain_reason : Explanation → PlainReason
-plain_reason (why.Refused number) = verdict_alone number 0
-plain_reason why.NotOurs = verdict_alone 0 0
-plain_reason (why.Forwarded verdict) = verdict_alone 0 (number_of verdict)
-plain_reason (why.Dropped drop) = plain_drop drop
+abbrev pub plain_reason : Result Explanation Refusal → PlainReason
+plain_reason (Err refusal) = verdict_alone (refusal_number refusal) 0
+plain_reason (Ok why.NotOurs) = verdict_alone 0 0
+plain_reason (Ok (why.Forwarded verdict)) = verdict_alone 0 (number_of verdict)
+plain_reason (Ok (why.Dropped drop)) = plain_drop drop

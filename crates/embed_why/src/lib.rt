@@ -1,5 +1,6 @@
 // Why a packet was dropped, for programs in C and Rust. `embed_why_c` makes an archive of its own of it, so that the one with the judge has
 // each of its parts once, in the function that is called for every packet. include/spritgrommet.h says what each call does and answers.
+// Kept: the C interface has no struct that holds lent memory, so that what a view and a site are is lent to each call part by part.
 #![tactic(auto)]
 
 ghost use Rattle.std.specs.Prelude.{◌≡◌};
@@ -11,15 +12,16 @@ ghost use Rattle.embed_why.specs.Plain.{plain_reason};
 
 pub mod plain;
 
+use gateway::{Site, View};
 use places::Placing;
 use plain::PlainReason;
 use settings::Limits;
 
 // Why a packet, from its IPv4 header on, that comes at a time is dropped. Tables and clock are only read.
-pub fn spritgrommet_why<'a>(
+pub fn spritgrommet_why(
     placing: Placing,
-    cell: &'a [u8],
-    plant: &'a [u8],
+    cell: &[u8],
+    plant: &[u8],
     records: &[u8],
     tags: &[u32],
     counts: &[i16],
@@ -32,17 +34,26 @@ pub fn spritgrommet_why<'a>(
         (why_of (rules_of limits) limits cell.now plant.now time packet.now
         (state_of placing records.now tags.now counts.now clock.now)) }
 {
-    let reason = gateway::why(
-        placing, cell, plant, records, tags, counts, clock, limits, time, packet,
-    );
-    plain::of_explanation(reason)
+    let view = View {
+        placing,
+        records,
+        tags,
+        counts,
+        clock: *clock,
+    };
+    let site = Site {
+        limits,
+        cell,
+        plant,
+    };
+    PlainReason::from(view.why(site, time, packet))
 }
 
 // Why what an Ethernet frame that comes at a time carries is dropped. Tables and clock are only read.
-pub fn spritgrommet_why_frame<'a>(
+pub fn spritgrommet_why_frame(
     placing: Placing,
-    cell: &'a [u8],
-    plant: &'a [u8],
+    cell: &[u8],
+    plant: &[u8],
     records: &[u8],
     tags: &[u32],
     counts: &[i16],
@@ -55,8 +66,17 @@ pub fn spritgrommet_why_frame<'a>(
         (frame_explained (rules_of limits) limits cell.now plant.now time frame.now
         (state_of placing records.now tags.now counts.now clock.now)) }
 {
-    let told = frames::why(
-        placing, cell, plant, records, tags, counts, clock, limits, time, frame,
-    );
-    plain::of_explanation(told)
+    let view = View {
+        placing,
+        records,
+        tags,
+        counts,
+        clock: *clock,
+    };
+    let site = Site {
+        limits,
+        cell,
+        plant,
+    };
+    PlainReason::from(frames::why(view, site, time, frame))
 }

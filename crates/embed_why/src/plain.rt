@@ -1,10 +1,12 @@
 // Why a packet was dropped, as plain numbers, laid out as C does. A number that an answer does not have is 0.
+// Kept: the C interface (include/spritgrommet.h) needs PlainReason, with a refusal beside the rest in place of a Result of an enum.
 ghost use Rattle.std.specs.Prelude.{◌≡◌};
 ghost use Rattle.packet.specs.Kinds.{kind_number};
 ghost use Rattle.embed_why.specs.Plain.{verdict_alone, plain_drop, plain_reason};
 
 use packet::kinds::Kind;
 use reasons::{Drop, Explanation};
+use refused::Refusal;
 use sides::Entry;
 
 // Why a packet was dropped: the number of its refusal, or 0; the verdict, 0 to 6, which is all of one that is not dropped; its kind, 0 UDP, 1
@@ -29,6 +31,7 @@ pub struct PlainReason {
 }
 
 // A kind's number.
+// Kept: a function, since neither Kind nor u8 is a type of this crate, for which alone a From could stand here.
 fn kind_number(kind: Kind) -> u8
     ensures { result ≡ kind_number kind }
 {
@@ -67,43 +70,48 @@ fn verdict_alone(refusal: u8, verdict: u8) -> PlainReason
     }
 }
 
-// A packet that was dropped.
-fn of_drop(drop: Drop) -> PlainReason
-    ensures { result ≡ plain_drop drop }
-{
-    let verdict = drop.verdict;
-    let header = drop.header;
-    let transport = header.transport;
-    let kind = transport.kind;
-    let marks = drop.marks;
-    let reported = drop.reported;
-    let cell_entry = drop.cell_entry;
-    let plant_entry = drop.plant_entry;
-    PlainReason {
-        refusal: 0,
-        verdict: verdicts::number(verdict),
-        kind: kind_number(kind),
-        plant_mark: marks.plant,
-        cell_mark: marks.cell,
-        count: drop.count,
-        threshold: drop.threshold,
-        by_count: reported.count,
-        by_plant_mark: reported.plant_mark,
-        by_cell_mark: reported.cell_mark,
-        by_kind: reported.kind,
-        cell_entry,
-        plant_entry,
+impl From<Drop> for PlainReason {
+    ghost from_gives = { λ drop plain. plain ≡ plain_drop drop };
+
+    fn from(drop: Drop) -> PlainReason {
+        let Drop {
+            verdict,
+            header,
+            count,
+            marks,
+            threshold,
+            reported,
+            cell_entry,
+            plant_entry,
+        } = drop;
+        PlainReason {
+            refusal: 0,
+            verdict: verdicts::number(verdict),
+            kind: kind_number(header.transport.kind),
+            plant_mark: marks.plant,
+            cell_mark: marks.cell,
+            count,
+            threshold,
+            by_count: reported.count,
+            by_plant_mark: reported.plant_mark,
+            by_cell_mark: reported.cell_mark,
+            by_kind: reported.kind,
+            cell_entry,
+            plant_entry,
+        }
     }
 }
 
-// What the gateway answers to the question why, in plain numbers.
-pub fn of_explanation(explanation: Explanation) -> PlainReason
-    ensures { result ≡ plain_reason explanation }
-{
-    match explanation {
-        Explanation::Refused(number) => verdict_alone(number, 0),
-        Explanation::NotOurs => verdict_alone(0, 0),
-        Explanation::Forwarded(verdict) => verdict_alone(0, verdicts::number(verdict)),
-        Explanation::Dropped(drop) => of_drop(drop),
+// What the gateway answers to the question why.
+impl From<Result<Explanation, Refusal>> for PlainReason {
+    ghost from_gives = { λ explanation plain. plain ≡ plain_reason explanation };
+
+    fn from(explanation: Result<Explanation, Refusal>) -> PlainReason {
+        match explanation {
+            Err(refusal) => verdict_alone(u8::from(refusal), 0),
+            Ok(Explanation::NotOurs) => verdict_alone(0, 0),
+            Ok(Explanation::Forwarded(verdict)) => verdict_alone(0, verdicts::number(verdict)),
+            Ok(Explanation::Dropped(drop)) => PlainReason::from(drop),
+        }
     }
 }

@@ -1,5 +1,6 @@
 // Why a packet was dropped, for programs in C and Rust: the archive of what `embed_why` does. include/spritgrommet.h says what each call does
 // and answers. Each export hands on to `embed_why`, and states its contract again.
+// Kept: the C interface has no struct that holds lent memory, so that what a view and a site are is lent to each call part by part.
 #![tactic(auto)]
 
 ghost use Rattle.std.specs.Prelude.{◌≡◌};
@@ -15,10 +16,10 @@ use settings::Limits;
 
 // Why a packet, from its IPv4 header on, that comes at a time is dropped. Tables and clock are only read.
 #[unsafe(no_mangle)]
-pub extern "C" fn spritgrommet_why<'a>(
+pub extern "C" fn spritgrommet_why(
     placing: Placing,
-    cell: &'a [u8],
-    plant: &'a [u8],
+    cell: &[u8],
+    plant: &[u8],
     records: &[u8],
     tags: &[u32],
     counts: &[i16],
@@ -38,10 +39,10 @@ pub extern "C" fn spritgrommet_why<'a>(
 
 // Why what an Ethernet frame that comes at a time carries is dropped. Tables and clock are only read.
 #[unsafe(no_mangle)]
-pub extern "C" fn spritgrommet_why_frame<'a>(
+pub extern "C" fn spritgrommet_why_frame(
     placing: Placing,
-    cell: &'a [u8],
-    plant: &'a [u8],
+    cell: &[u8],
+    plant: &[u8],
     records: &[u8],
     tags: &[u32],
     counts: &[i16],

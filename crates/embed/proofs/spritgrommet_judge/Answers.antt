@@ -1,10 +1,11 @@
--- `embed::spritgrommet_judge` meets its contract: the call's own, with its answer in plain numbers.
+-- `embed::spritgrommet_judge` meets its contract: the gateway's own, with its answer in plain numbers.
 -- Assumes nothing.
-use mathlib.Core.Path.{ap}
-use Rattle.rulings.specs.declared.answers.Answer.{Answer}
-use Rattle.gateway.specs.Calls.{After}
-use Rattle.embed.specs.Plain.{plainly, plain_answer}
+use borrow.Author.Rules.{rules}
+use Rattle.embed.specs.Plain.{plain_answer}
+use Rattle.embed.proofs.Keeps.{in_plain, judged_keeps}
 use Rattle.embed.proofs.spritgrommet_judge.Goals as goal
 
 pub returns : goal.returns
-returns c = rw c.of_answer.ensures (ap (λ (a : After Answer). plainly plain_answer a) c.judge-answer.ensures)
+returns c =
+    in_plain plain_answer (judged_keeps _ _ _ _ _ _ _) c.judge-answer.ensures.state
+    c.from.ensures (search rules) (search rules) (search rules) (search rules)

@@ -1,10 +1,11 @@
--- `embed::spritgrommet_pass` meets its contract: the call's own, with its answer in plain numbers.
+-- `embed::spritgrommet_pass` meets its contract: the gateway's own, with its answer in plain numbers.
 -- Assumes nothing.
-use mathlib.Core.Path.{ap}
-use Rattle.gateway.specs.declared.Reply.{Reply}
-use Rattle.gateway.specs.Calls.{After, refusal_in}
-use Rattle.embed.specs.Plain.{plainly}
+use borrow.Author.Rules.{rules}
+use Rattle.refused.specs.Refused.{refusal_in}
+use Rattle.embed.proofs.Keeps.{in_plain, passed_keeps}
 use Rattle.embed.proofs.spritgrommet_pass.Goals as goal
 
 pub returns : goal.returns
-returns c = rw c.of_reply.ensures (ap (λ (a : After Reply). plainly refusal_in a) c.pass-reply.ensures)
+returns c =
+    in_plain refusal_in (passed_keeps _ _ _ _) c.pass-reply.ensures.state
+    c.of_reply.ensures (search rules) (search rules) (search rules) (search rules)
