@@ -119,6 +119,7 @@ fn put_entry(room: &mut Room, entry: Entry)
 }
 
 // What a letter stands for.
+// Kept: the letters stand in the texts, which are definitions (`filled`, `value_of`); an enum would name each letter twice.
 #[tactic(auto, unfolding(lines::specs::Room::put, crate::specs::Values::value_of))]
 fn put_value(room: &mut Room, letter: u8, report: Report)
     ensures same { room.new.bytes.ghost_name ≡ room.old.bytes.ghost_name }

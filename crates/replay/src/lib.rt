@@ -22,6 +22,7 @@ const T: u16 = 10;
 
 // What one step answers: that no byte is left, that a record is cut off or too long, or a whole record, what the gateway answered, and what it
 // answered to the question why where that was asked.
+// Kept: as `capture::Reading`, of which it is the answer.
 #[derive(Clone, Copy)]
 pub enum Step {
     End,

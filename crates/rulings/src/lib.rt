@@ -12,7 +12,7 @@ use settings::Limits;
 use verdicts::Verdict;
 
 // A verdict, and what follows from it: the packet's record, whether the cell address's entry is written, and its count.
-// Kept: the count is the answer's, written or not, so that it stands beside the flag; with an Option it would be looked up twice.
+// Kept: the count is the answer's, written or not, so that it stands beside the flag.
 #[derive(Clone, Copy)]
 pub struct Ruling {
     pub verdict: Verdict,

@@ -40,6 +40,7 @@ pub struct Winning {
 }
 
 // An entry of a side list by value: its number there, from 1, its address and its prefix length; each 0 where there is none.
+// Kept: the C interface has it so, in `PlainReason`.
 #[repr(C)]
 #[derive(Clone, Copy)]
 pub struct Entry {
