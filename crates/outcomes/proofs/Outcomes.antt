@@ -15,13 +15,7 @@ use Rattle.counts.proofs.is_blocked.Reads as counts_is_blocked
 use Rattle.counts.proofs.is_empty.Reads as counts_is_empty
 use Rattle.counts.proofs.lowered.Reads as counts_lowered
 use Rattle.counts.proofs.raised.Reads as counts_raised
-use Rattle.embed.proofs.plain.of_answer.Reads as embed_plain_of_answer
-use Rattle.embed.proofs.plain.of_opened.Reads as embed_plain_of_opened
-use Rattle.embed.proofs.plain.of_reading.Reads as embed_plain_of_reading
 use Rattle.embed.proofs.plain.of_reply.Reads as embed_plain_of_reply
-use Rattle.embed.proofs.plain.of_started.Reads as embed_plain_of_started
-use Rattle.embed.proofs.plain.of_winning.Reads as embed_plain_of_winning
-use Rattle.embed.proofs.plain.of_written.Reads as embed_plain_of_written
 use Rattle.embed.proofs.plain.tally_with.Reads as embed_plain_tally_with
 use Rattle.embed.proofs.spritgrommet_cold_start.Reads as embed_spritgrommet_cold_start
 use Rattle.embed.proofs.spritgrommet_decrypt.Reads as embed_spritgrommet_decrypt
@@ -37,7 +31,6 @@ use Rattle.embed.proofs.spritgrommet_put_record.Reads as embed_spritgrommet_put_
 use Rattle.embed.proofs.spritgrommet_tally.Reads as embed_spritgrommet_tally
 use Rattle.embed.proofs.spritgrommet_winner.Reads as embed_spritgrommet_winner
 use Rattle.embed.specs.Plain.{plain_put_of}
-use Rattle.embed_why.proofs.plain.of_explanation.Reads as embed_why_plain_of_explanation
 use Rattle.embed_why.proofs.spritgrommet_why.Reads as embed_why_spritgrommet_why
 use Rattle.embed_why.proofs.spritgrommet_why_frame.Reads as embed_why_spritgrommet_why_frame
 use Rattle.endings.proofs.one_more.Reads as endings_one_more
@@ -497,35 +490,14 @@ embed_spritgrommet_put_record_one κs a x y s t p q = same p q
 pub embed_plain_of_reply_one : (κs : _) (a : _) → One (embed_plain_of_reply.Learnt κs a) (λ x s. x)
 embed_plain_of_reply_one κs a x y s t p q = same p q
 
-pub embed_plain_of_started_one : (κs : _) (a : _) → One (embed_plain_of_started.Learnt κs a) (λ x s. x)
-embed_plain_of_started_one κs a x y s t p q = same p q
-
-pub embed_plain_of_answer_one : (κs : _) (a : _) → One (embed_plain_of_answer.Learnt κs a) (λ x s. x)
-embed_plain_of_answer_one κs a x y s t p q = same p q
-
 pub embed_plain_tally_with_one : (κs : _) (a : _) → One (embed_plain_tally_with.Learnt κs a) (λ x s. x)
 embed_plain_tally_with_one κs a x y s t p q = same p q
-
-pub embed_plain_of_written_one : (κs : _) (a : _) → One (embed_plain_of_written.Learnt κs a) (λ x s. x)
-embed_plain_of_written_one κs a x y s t p q = same p q
-
-pub embed_plain_of_winning_one : (κs : _) (a : _) → One (embed_plain_of_winning.Learnt κs a) (λ x s. x)
-embed_plain_of_winning_one κs a x y s t p q = same p q
-
-pub embed_plain_of_opened_one : (κs : _) (a : _) → One (embed_plain_of_opened.Learnt κs a) (λ x s. x)
-embed_plain_of_opened_one κs a x y s t p q = same p q
-
-pub embed_plain_of_reading_one : (κs : _) (a : _) → One (embed_plain_of_reading.Learnt κs a) (λ x s. x)
-embed_plain_of_reading_one κs a x y s t p q = same p q
 
 pub embed_why_spritgrommet_why_one : (κs : _) (a : _) → One (embed_why_spritgrommet_why.Learnt κs a) (λ x s. x)
 embed_why_spritgrommet_why_one κs a x y s t p q = same p q
 
 pub embed_why_spritgrommet_why_frame_one : (κs : _) (a : _) → One (embed_why_spritgrommet_why_frame.Learnt κs a) (λ x s. x)
 embed_why_spritgrommet_why_frame_one κs a x y s t p q = same p q
-
-pub embed_why_plain_of_explanation_one : (κs : _) (a : _) → One (embed_why_plain_of_explanation.Learnt κs a) (λ x s. x)
-embed_why_plain_of_explanation_one κs a x y s t p q = same p q
 
 -- programs::replay is left out: it answers nothing, is lent the runtime alone, and what it reads and writes no contract can say
 
