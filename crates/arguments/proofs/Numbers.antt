@@ -10,6 +10,7 @@ use lib.Dec.{leb}
 use lib.ListN.{length, get_or, drop, drop_of_length-le}
 use lib.Seq.{drop-cons}
 use borrow.Author.Tests.{leb-true}
+use Rattle.std.specs.Prelude.{Some, None}
 use Rattle.laws.proofs.Tests.{and_left, and_right, cond_at}
 use Rattle.arguments.specs.Arguments.{is_digit, number_from}
 
@@ -37,10 +38,10 @@ module _ (bytes : List ℕ) (value done : ℕ) where
   unfolding number_from
   number_next h e = sym (split h ∙ cond_at _ _ e)
 
-  pub number_stops : done < length bytes → is_digit here ≡ false → 0 ≡ number_from value (drop done bytes)
+  pub number_stops : done < length bytes → is_digit here ≡ false → None ≡ number_from value (drop done bytes)
   unfolding number_from
   number_stops h e = sym (split h ∙ cond_at _ _ e)
 
-  pub number_ends : length bytes ≤ done → value ≡ number_from value (drop done bytes)
+  pub number_ends : length bytes ≤ done → Some value ≡ number_from value (drop done bytes)
   unfolding number_from
   number_ends h = ap (number_from value) (sym (drop_of_length-le bytes {i = done} h))

@@ -11,19 +11,19 @@ fn is_digit(byte: u8) -> bool
     (48 <= byte) & (byte <= 57)
 }
 
-// The number of a record, from 1, that an argument of 1 to 19 digits gives; 0 where it gives none.
-pub fn record_number(bytes: &[u8]) -> u64
+// The number of a record, from 1, that an argument of 1 to 19 digits gives.
+pub fn record_number(bytes: &[u8]) -> Option<u64>
     ensures { result ≡ record_number bytes.now }
 {
     if 19 < bytes.len() {
-        return 0;
+        return None;
     }
     let mut value = 0;
     for &byte in bytes {
         if !is_digit(byte) {
-            return 0;
+            return None;
         }
         value = 10 * value + u64::from(byte - 48);
     }
-    value
+    (0 < value).then_some(value)
 }

@@ -43,8 +43,8 @@ fn wanted(rt: &HostRuntime) -> Result<Output, BadArguments> {
         Err(FillError::TooLong) => return Err(BadArguments::NoNumber),
     };
     match arguments::record_number(&argument[..length]) {
-        0 => Err(BadArguments::NoNumber),
-        number => Ok(Output::Reasons(Some(number))),
+        Some(number) => Ok(Output::Reasons(Some(number))),
+        None => Err(BadArguments::NoNumber),
     }
 }
 

@@ -2,10 +2,10 @@
 -- Assumes nothing.
 use Prim.Native.Nat.{◌-◌}
 use lib.ListN.{get_or}
-use mathlib.Core.Path.{refl, sym, ◌∙◌}
+use mathlib.Core.Path.{refl, sym, ap, ◌∙◌}
 use native.Mathlib.Omega.{arith}
 use borrow.Author.Tests.{lt-ltb, le-ltb}
-use Rattle.arguments.specs.Arguments.{record_number}
+use Rattle.arguments.specs.Arguments.{record_number, from_one}
 use Rattle.arguments.proofs.Numbers.{digit_range, fits_more, number_next, number_stops, number_ends}
 use Rattle.arguments.proofs.record_number.Goals as goal
 
@@ -40,8 +40,11 @@ loop-byte-preserved c =
 pub returns-then-not-is_digit : goal.returns-then-not-is_digit
 unfolding record_number
 returns-then-not-is_digit c = rw (le-ltb _ _ c.if-bytes-gt19.false)
-    (number_stops c.args.bytes.now c.loop-byte.value c.loop-byte.byte-index (omega arith) (sym c.is_digit.ensures ∙ c.if-not-is_digit.true) ∙ c.loop-byte.invariant.1)
+    (ap from_one (number_stops c.args.bytes.now c.loop-byte.value c.loop-byte.byte-index (omega arith) (sym c.is_digit.ensures ∙ c.if-not-is_digit.true)
+    ∙ c.loop-byte.invariant.1))
 
 pub returns : goal.returns
 unfolding record_number
-returns c = rw (le-ltb _ _ c.if-bytes-gt19.false) (number_ends c.args.bytes.now c.loop-byte.value c.loop-byte.byte-index (omega arith) ∙ c.loop-byte.invariant.1)
+returns c = rw (le-ltb _ _ c.if-bytes-gt19.false)
+    (c.then_some.ensures
+    ∙ ap from_one (number_ends c.args.bytes.now c.loop-byte.value c.loop-byte.byte-index (omega arith) ∙ c.loop-byte.invariant.1))
