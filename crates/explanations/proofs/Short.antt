@@ -27,7 +27,9 @@ use Rattle.lines.specs.Letters.{text}
 use Rattle.lines.specs.Text.{decimal, signed, dotted}
 use Rattle.lines.proofs.Whole.{signed_short, byte_short, dotted_short, one_digit, refusal_digit, long_number}
 use Rattle.explanations.specs.declared.Report.{Report}
-use Rattle.explanations.specs.Values.{kind_word, kind_words, is_blocking, kinds_that_pass, port_word, port_words, has_ports, entry_text, value_of, letter_text, is_mark, filled}
+use Rattle.std.specs.Bool.{then_some}
+use Rattle.packet.specs.Kinds.{ported}
+use Rattle.explanations.specs.Values.{kind_word, kind_words, is_blocking, kinds_that_pass, source_port, destination_port, port_word, port_words, entry_text, value_of, letter_text, is_mark, filled}
 use Rattle.explanations.specs.Explanations.{said, of_facts, first_line, who_and_whom, by_plant_mark, situation, ways_through, drop_text, forwarded_text, not_ours_text, refused_words, refused_text, explanation_text, is_told, asked_text}
 
 -- ---- what the types of an explanation's parts say of them
@@ -102,12 +104,12 @@ kinds_short true = record { few = omega arith }
 kinds_short false = record { few = omega arith }
 
 -- ports
-port_short : (has : Bool) (port : ℕ) → port < 2 ^ 16 → Few (port_word has port)
+port_short : (has : Bool) (port : ℕ) → port < 2 ^ 16 → Few (port_word (then_some has port))
 unfolding text
 port_short true port h = decimal_short port (omega (arith, h))
 port_short false port h = record { few = omega arith }
 
-port_words_short : (has : Bool) (port : ℕ) → port < 2 ^ 16 → Few (port_words has port)
+port_words_short : (has : Bool) (port : ℕ) → port < 2 ^ 16 → Few (port_words (then_some has port))
 unfolding text
 port_words_short true port h =
     record { few = omega (arith, long_number port (omega (arith, h)), length-append (text " port ") (decimal port)) }
@@ -126,6 +128,9 @@ entry_short entry sized =
     }
 
 module _ (report : Report) (number : report.number < 2 ^ 64) (seconds : report.seconds < 2 ^ 32) (sized : DropSized report.drop) where
+  abbrev has : Bool
+  has = ported report.drop.header.protocol report.drop.header.later
+
   value_short : (letter : ℕ) → Few (value_of report letter)
   unfolding value_of
   value_short letter =
@@ -136,10 +141,10 @@ module _ (report : Report) (number : report.number < 2 ^ 64) (seconds : report.s
       (or_else (eqb letter (code "s")) (decimal report.seconds) (decimal_short report.seconds (omega (arith, seconds)))
       (or_else (eqb letter (code "a")) (dotted report.drop.header.source) (address_short report.drop.header.source sized.source)
       (or_else (eqb letter (code "b")) (dotted report.drop.header.destination) (address_short report.drop.header.destination sized.destination)
-      (or_else (eqb letter (code "p")) (port_word (has_ports report.drop.header) report.drop.header.transport.source_port) (port_short (has_ports report.drop.header) report.drop.header.transport.source_port sized.source_port)
-      (or_else (eqb letter (code "q")) (port_word (has_ports report.drop.header) report.drop.header.transport.destination_port) (port_short (has_ports report.drop.header) report.drop.header.transport.destination_port sized.destination_port)
-      (or_else (eqb letter (code "P")) (port_words (has_ports report.drop.header) report.drop.header.transport.source_port) (port_words_short (has_ports report.drop.header) report.drop.header.transport.source_port sized.source_port)
-      (or_else (eqb letter (code "Q")) (port_words (has_ports report.drop.header) report.drop.header.transport.destination_port) (port_words_short (has_ports report.drop.header) report.drop.header.transport.destination_port sized.destination_port)
+      (or_else (eqb letter (code "p")) (port_word (source_port report.drop.header)) (port_short has report.drop.header.transport.source_port sized.source_port)
+      (or_else (eqb letter (code "q")) (port_word (destination_port report.drop.header)) (port_short has report.drop.header.transport.destination_port sized.destination_port)
+      (or_else (eqb letter (code "P")) (port_words (source_port report.drop.header)) (port_words_short has report.drop.header.transport.source_port sized.source_port)
+      (or_else (eqb letter (code "Q")) (port_words (destination_port report.drop.header)) (port_words_short has report.drop.header.transport.destination_port sized.destination_port)
       (or_else (eqb letter (code "i")) (decimal report.drop.header.protocol) (decimal_short report.drop.header.protocol (omega (arith, sized.protocol)))
       (or_else (eqb letter (code "k")) (kind_word report.drop.header.transport.kind) (word_short report.drop.header.transport.kind)
       (or_else (eqb letter (code "K")) (kind_words report.drop.header.transport.kind) (words_short report.drop.header.transport.kind)

@@ -1,6 +1,7 @@
 -- The values in the texts about a packet that was dropped, each by a letter after "%".
 -- Assumes nothing.
-use Rattle.std.specs.Prelude.{Bool, true, false, not, ◌&&◌, cond, List, [], ◌∷◌, ◌++◌, ℕ, eqb}
+use Rattle.std.specs.Prelude.{Bool, true, false, not, ◌&&◌, cond, List, [], ◌∷◌, ◌++◌, ℕ, eqb, Option, Some, None}
+use Rattle.std.specs.Bool.{then_some}
 use Prim.Native.Char.{code}
 use Rattle.packet.specs.declared.Header.{Header}
 use Rattle.packet.specs.declared.kinds.Kind.{Kind}
@@ -43,17 +44,20 @@ abbrev pub kinds_that_pass : Bool → List ℕ
 kinds_that_pass true = text "SYN+ACK, closing or plain"
 kinds_that_pass false = text "UDP, opening or plain"
 
--- a port in the first line, where the packet has ports, or "-"; and in a sentence, or nothing
-abbrev pub port_word : Bool → ℕ → List ℕ
-port_word true port = decimal port
-port_word false port = text "-"
+-- the ports, where the packet has them; each in the first line, or "-"; and in a sentence, or nothing
+abbrev pub source_port : Header → Option ℕ
+source_port h = then_some (ported h.protocol h.later) h.transport.source_port
 
-abbrev pub port_words : Bool → ℕ → List ℕ
-port_words true port = text " port " ++ decimal port
-port_words false port = []
+abbrev pub destination_port : Header → Option ℕ
+destination_port h = then_some (ported h.protocol h.later) h.transport.destination_port
 
-abbrev pub has_ports : Header → Bool
-has_ports h = ported h.protocol h.later
+abbrev pub port_word : Option ℕ → List ℕ
+port_word (Some port) = decimal port
+port_word None = text "-"
+
+abbrev pub port_words : Option ℕ → List ℕ
+port_words (Some port) = text " port " ++ decimal port
+port_words None = []
 
 -- an entry of a side list: its address "in dotted form", and its prefix length
 abbrev pub entry_text : Entry → List ℕ
@@ -69,10 +73,10 @@ value_of report letter =
     (cond (eqb letter (code "s")) (decimal report.seconds)
     (cond (eqb letter (code "a")) (dotted report.drop.header.source)
     (cond (eqb letter (code "b")) (dotted report.drop.header.destination)
-    (cond (eqb letter (code "p")) (port_word (has_ports report.drop.header) report.drop.header.transport.source_port)
-    (cond (eqb letter (code "q")) (port_word (has_ports report.drop.header) report.drop.header.transport.destination_port)
-    (cond (eqb letter (code "P")) (port_words (has_ports report.drop.header) report.drop.header.transport.source_port)
-    (cond (eqb letter (code "Q")) (port_words (has_ports report.drop.header) report.drop.header.transport.destination_port)
+    (cond (eqb letter (code "p")) (port_word (source_port report.drop.header))
+    (cond (eqb letter (code "q")) (port_word (destination_port report.drop.header))
+    (cond (eqb letter (code "P")) (port_words (source_port report.drop.header))
+    (cond (eqb letter (code "Q")) (port_words (destination_port report.drop.header))
     (cond (eqb letter (code "i")) (decimal report.drop.header.protocol)
     (cond (eqb letter (code "k")) (kind_word report.drop.header.transport.kind)
     (cond (eqb letter (code "K")) (kind_words report.drop.header.transport.kind)

@@ -3,10 +3,11 @@
 #![tactic(auto, using(lines::proofs::Rooms::put_more), unfolding(lines::specs::Room::put, lines::specs::Letters::text))]
 
 ghost use Rattle.std.specs.Prelude.{◌≡◌, cond, false, []};
+ghost use Rattle.packet.specs.Kinds.{ported};
 ghost use Rattle.refused.specs.Refused.{refusal_number};
 ghost use Rattle.lines.specs.Room.{put};
 ghost use Rattle.lines.specs.Rooms.{room_in};
-ghost use Rattle.explanations.specs.Values.{kind_word, kind_words, is_blocking, kinds_that_pass, port_word, port_words, has_ports, entry_text, value_of, letter_text, filled};
+ghost use Rattle.explanations.specs.Values.{kind_word, kind_words, is_blocking, kinds_that_pass, source_port, destination_port, port_word, port_words, entry_text, value_of, letter_text, filled};
 ghost use Rattle.explanations.specs.Explanations.{of_facts, first_line, who_and_whom, by_plant_mark, situation, ways_through, drop_text, forwarded_text, refused_words, refused_text, explanation_text, is_drop, is_told, asked_text};
 
 use lines::Room;
@@ -80,29 +81,42 @@ fn kinds_that_pass(verdict: Verdict) -> &'static [u8]
 
 // Whether a packet has ports: TCP and UDP do, but not in a later fragment.
 fn has_ports(header: Header) -> bool
-    ensures { result ≡ has_ports header }
+    ensures { result ≡ ported header.protocol header.later }
 {
     !header.later & matches!(header.protocol, 6 | 17)
 }
 
-// A port in the first line, or "-".
-fn put_port_word(room: &mut Room, has_ports: bool, port: u16)
-    ensures same { room.new.bytes.ghost_name ≡ room.old.bytes.ghost_name }
-    ensures put { room_in room.new ≡ put (port_word has_ports port) (room_in room.old) }
+// The source port, where the packet has ports.
+fn source_port(header: Header) -> Option<u16>
+    ensures { result ≡ source_port header }
 {
-    if has_ports {
-        room.decimal(port as u64);
-    } else {
-        room.text(b"-");
+    has_ports(header).then_some(header.transport.source_port)
+}
+
+// The destination port, where the packet has ports.
+fn destination_port(header: Header) -> Option<u16>
+    ensures { result ≡ destination_port header }
+{
+    has_ports(header).then_some(header.transport.destination_port)
+}
+
+// A port in the first line, or "-".
+fn put_port_word(room: &mut Room, port: Option<u16>)
+    ensures same { room.new.bytes.ghost_name ≡ room.old.bytes.ghost_name }
+    ensures put { room_in room.new ≡ put (port_word port) (room_in room.old) }
+{
+    match port {
+        Some(port) => room.decimal(port as u64),
+        None => room.text(b"-"),
     }
 }
 
 // A port in a sentence, or nothing.
-fn put_port_words(room: &mut Room, has_ports: bool, port: u16)
+fn put_port_words(room: &mut Room, port: Option<u16>)
     ensures same { room.new.bytes.ghost_name ≡ room.old.bytes.ghost_name }
-    ensures put { room_in room.new ≡ put (port_words has_ports port) (room_in room.old) }
+    ensures put { room_in room.new ≡ put (port_words port) (room_in room.old) }
 {
-    if has_ports {
+    if let Some(port) = port {
         room.text(b" port ");
         room.decimal(port as u64);
     }
@@ -136,10 +150,10 @@ fn put_value(room: &mut Room, letter: u8, report: Report)
         b's' => room.decimal(report.seconds as u64),
         b'a' => room.dotted(header.source),
         b'b' => room.dotted(header.destination),
-        b'p' => put_port_word(room, has_ports(header), transport.source_port),
-        b'q' => put_port_word(room, has_ports(header), transport.destination_port),
-        b'P' => put_port_words(room, has_ports(header), transport.source_port),
-        b'Q' => put_port_words(room, has_ports(header), transport.destination_port),
+        b'p' => put_port_word(room, source_port(header)),
+        b'q' => put_port_word(room, destination_port(header)),
+        b'P' => put_port_words(room, source_port(header)),
+        b'Q' => put_port_words(room, destination_port(header)),
         b'i' => room.decimal(header.protocol as u64),
         b'k' => room.text(kind_word(transport.kind)),
         b'K' => room.text(kind_words(transport.kind)),
