@@ -8,7 +8,7 @@ use Rattle.packet.specs.declared.kinds.Kind.{Kind}
 use Rattle.counts.specs.Counts.{is_blocked}
 use Rattle.verdicts.specs.declared.Verdict.TheVariants.{Uncounted, CreditOfOne, FreshContact, Hygiene, Blocked}
 use Rattle.verdicts.specs.Verdicts.{is_forwarded, is_udp, is_opening, is_syn_ack, is_closing, from_the_cell, from_blocked_cell, verdict_of}
-use Rattle.reasons.specs.Reasons.{Facts, verdict_on, passes, with_kind, reported_on}
+use Rattle.reasons.specs.Reasons.{Facts, verdict_on, let_through, with_kind, reported_on}
 use Rattle.reasons.proofs.Reasons.{kinds_of_blocked, kinds_of_others}
 use Rattle.explanations.specs.Values.{is_blocking}
 
@@ -36,7 +36,7 @@ unfolding verdict_of from_the_cell from_blocked_cell
 by_case true plant cell kind e = of_blocked plant (is_udp kind || is_opening kind) (cell || is_closing kind) e
 by_case false plant cell kind e = of_others cell plant (is_closing kind) (is_closing kind || is_syn_ack kind) e
 
-pub six_if_blocked : (threshold : ℕ) (facts : Facts) → passes threshold facts ≡ false
+pub six_if_blocked : (threshold : ℕ) (facts : Facts) → let_through threshold facts ≡ false
     → is_blocking (verdict_on threshold facts) ≡ is_blocked threshold facts.count
 six_if_blocked threshold facts e = by_case (is_blocked threshold facts.count) facts.plant facts.cell facts.kind e
 
@@ -44,11 +44,11 @@ six_if_blocked threshold facts e = by_case (is_blocked threshold facts.count) fa
 abbrev pub listed : Bool → Kind → Bool
 listed blocking kind = cond blocking (not (is_udp kind || is_opening kind)) (not (is_closing kind || is_syn_ack kind))
 
-pub as_told : (threshold : ℕ) (facts : Facts) → passes threshold facts ≡ false → (reported_on threshold facts).kind ≡ true
-    → (kind : Kind) → passes threshold (with_kind facts kind) ≡ listed (is_blocking (verdict_on threshold facts)) kind
+pub as_told : (threshold : ℕ) (facts : Facts) → let_through threshold facts ≡ false → (reported_on threshold facts).kind ≡ true
+    → (kind : Kind) → let_through threshold (with_kind facts kind) ≡ listed (is_blocking (verdict_on threshold facts)) kind
 as_told threshold facts e r kind = go (is_blocked threshold facts.count) refl
   where
     go : (b : Bool) → is_blocked threshold facts.count ≡ b
-        → passes threshold (with_kind facts kind) ≡ listed (is_blocking (verdict_on threshold facts)) kind
+        → let_through threshold (with_kind facts kind) ≡ listed (is_blocking (verdict_on threshold facts)) kind
     go true b = kinds_of_blocked threshold facts b e r kind ∙ sym (ap (λ (t : Bool). listed t kind) (six_if_blocked threshold facts e ∙ b))
     go false b = kinds_of_others threshold facts b e kind ∙ sym (ap (λ (t : Bool). listed t kind) (six_if_blocked threshold facts e ∙ b))

@@ -16,7 +16,7 @@ use Rattle.packet.specs.declared.kinds.Kind.TheVariants.{Udp, Opening, SynAck, C
 use Rattle.counts.specs.Counts.{is_blocked}
 use Rattle.verdicts.specs.Verdicts.{is_forwarded, is_udp, is_opening, is_syn_ack, is_closing, from_the_cell, from_blocked_cell, verdict_of}
 use Rattle.reasons.specs.declared.Reported.{Reported}
-use Rattle.reasons.specs.Reasons.{Facts, facts_of, passes, with_count, with_plant, with_cell, with_kind, held_counts, held_count, mark_values, kind_values, reported_on}
+use Rattle.reasons.specs.Reasons.{Facts, facts_of, let_through, with_count, with_plant, with_cell, with_kind, held_counts, held_count, mark_values, kind_values, reported_on}
 
 -- whether the packet goes through, by whether its address is blocked
 abbrev through : Bool → Bool → Bool → Kind → Bool
@@ -61,7 +61,7 @@ no_help false cell kind e = when_blocked false cell kind
 module _ (threshold : ℕ) (facts : Facts) where
   -- some count that an entry may hold is below any threshold, and no other lets more through
   count_is : through false facts.plant facts.cell facts.kind
-      ≡ some_below held_counts (λ number. passes threshold (with_count facts (held_count number)))
+      ≡ some_below held_counts (λ number. let_through threshold (with_count facts (held_count number)))
   count_is = go (through false facts.plant facts.cell facts.kind) refl
     where
       by : (blocked : Bool) → through false facts.plant facts.cell facts.kind ≡ false
@@ -70,7 +70,7 @@ module _ (threshold : ℕ) (facts : Facts) where
       by true e = no_help facts.plant facts.cell facts.kind e
 
       go : (t : Bool) → through false facts.plant facts.cell facts.kind ≡ t
-          → t ≡ some_below held_counts (λ number. passes threshold (with_count facts (held_count number)))
+          → t ≡ some_below held_counts (λ number. let_through threshold (with_count facts (held_count number)))
       go true e = sym (some_is held_counts _ (record { number = 32766; below = omega arith; passes = e }))
       go false e = sym (some_none held_counts _ (λ number h. by (is_blocked threshold (held_count number)) e))
 
@@ -115,17 +115,17 @@ listed_held number h = omega (arith, signed, size (held_count number), one_part 
 module _ (threshold : ℕ) (facts : Facts) where
   -- a fact that is reported is sufficient: with it changed, and nothing else, the packet is forwarded
   pub record Sufficient (reported : Reported) : Type 0 where
-    pub count : reported.count ≡ true → (value : ℤ) × (Held value × (passes threshold (with_count facts value) ≡ true))
-    pub plant : reported.plant_mark ≡ true → (value : Bool) × (passes threshold (with_plant facts value) ≡ true)
-    pub cell : reported.cell_mark ≡ true → (value : Bool) × (passes threshold (with_cell facts value) ≡ true)
-    pub kind : reported.kind ≡ true → (value : Kind) × (passes threshold (with_kind facts value) ≡ true)
+    pub count : reported.count ≡ true → (value : ℤ) × (Held value × (let_through threshold (with_count facts value) ≡ true))
+    pub plant : reported.plant_mark ≡ true → (value : Bool) × (let_through threshold (with_plant facts value) ≡ true)
+    pub cell : reported.cell_mark ≡ true → (value : Bool) × (let_through threshold (with_cell facts value) ≡ true)
+    pub kind : reported.kind ≡ true → (value : Kind) × (let_through threshold (with_kind facts value) ≡ true)
 
   -- and no other is: every fact with a value that does that is reported
   pub record Complete (reported : Reported) : Type 0 where
-    pub count : (value : ℤ) → Held value → passes threshold (with_count facts value) ≡ true → reported.count ≡ true
-    pub plant : (value : Bool) → passes threshold (with_plant facts value) ≡ true → reported.plant_mark ≡ true
-    pub cell : (value : Bool) → passes threshold (with_cell facts value) ≡ true → reported.cell_mark ≡ true
-    pub kind : (value : Kind) → passes threshold (with_kind facts value) ≡ true → reported.kind ≡ true
+    pub count : (value : ℤ) → Held value → let_through threshold (with_count facts value) ≡ true → reported.count ≡ true
+    pub plant : (value : Bool) → let_through threshold (with_plant facts value) ≡ true → reported.plant_mark ≡ true
+    pub cell : (value : Bool) → let_through threshold (with_cell facts value) ≡ true → reported.cell_mark ≡ true
+    pub kind : (value : Kind) → let_through threshold (with_kind facts value) ≡ true → reported.kind ≡ true
 
   pub sufficient : Sufficient (reported_on threshold facts)
   unfolding reported_on
@@ -143,7 +143,7 @@ module _ (threshold : ℕ) (facts : Facts) where
       record {
         count = λ value h e.
             let at = held_at value h in
-            some_is held_counts _ (record { number = at.0; below = at.1.0; passes = ap (λ (z : ℤ). passes threshold (with_count facts z)) at.1.1 ∙ e });
+            some_is held_counts _ (record { number = at.0; below = at.1.0; passes = ap (λ (z : ℤ). let_through threshold (with_count facts z)) at.1.1 ∙ e });
         plant = of_marks _;
         cell = of_marks _;
         kind = of_kinds _;
@@ -243,7 +243,7 @@ every_cell true true true Closing count e = true_is_not_false refl e
 every_cell true true true Plain count e = true_is_not_false refl e
 
 -- so it is of every packet from the cell that is dropped
-pub the_table : (threshold : ℕ) (facts : Facts) → passes threshold facts ≡ false
+pub the_table : (threshold : ℕ) (facts : Facts) → let_through threshold facts ≡ false
     → reported_on threshold facts ≡ as_table (is_blocked threshold facts.count) facts
 the_table threshold facts e =
     by_blocked_lem threshold facts
@@ -266,30 +266,30 @@ one_in_the_table true facts = go (facts.plant || facts.cell) facts.kind
     go false Closing = refl
     go false Plain = refl
 
-pub at_least_one : (threshold : ℕ) (facts : Facts) → passes threshold facts ≡ false → one_of (reported_on threshold facts) ≡ true
+pub at_least_one : (threshold : ℕ) (facts : Facts) → let_through threshold facts ≡ false → one_of (reported_on threshold facts) ≡ true
 at_least_one threshold facts e = ap one_of (the_table threshold facts e) ∙ one_in_the_table (is_blocked threshold facts.count) facts
 
 -- ---- what the sentences under a report say
 -- where the count is reported, every count below T would have done
 pub below_the_threshold : (threshold : ℕ) (facts : Facts) → (reported_on threshold facts).count ≡ true
-    → (count : ℤ) → is_blocked threshold count ≡ false → passes threshold (with_count facts count) ≡ true
+    → (count : ℤ) → is_blocked threshold count ≡ false → let_through threshold (with_count facts count) ≡ true
 unfolding reported_on
 below_the_threshold threshold facts e count b =
     ap (λ (blocked : Bool). through blocked facts.plant facts.cell facts.kind) b ∙ count_is threshold facts ∙ e
 
 -- the kinds that would have done: of a blocked address, where the kind is reported, every kind but UDP and opening; of another all but
 -- closing and SYN+ACK
-pub kinds_of_blocked : (threshold : ℕ) (facts : Facts) → is_blocked threshold facts.count ≡ true → passes threshold facts ≡ false
+pub kinds_of_blocked : (threshold : ℕ) (facts : Facts) → is_blocked threshold facts.count ≡ true → let_through threshold facts ≡ false
     → (reported_on threshold facts).kind ≡ true
-    → (kind : Kind) → passes threshold (with_kind facts kind) ≡ not (is_udp kind || is_opening kind)
+    → (kind : Kind) → let_through threshold (with_kind facts kind) ≡ not (is_udp kind || is_opening kind)
 kinds_of_blocked threshold facts b e r kind =
     let marked : facts.plant ≡ true = sym (ap (λ (t : Bool). (as_table t facts).kind) b) ∙ sym (ap (λ (x : Reported). x.kind) (the_table threshold facts e)) ∙ r in
     ap (λ (t : Bool). through t facts.plant facts.cell kind) b
     ∙ when_blocked facts.plant facts.cell kind
     ∙ ap (λ (t : Bool). t && not (is_udp kind || is_opening kind)) marked
 
-pub kinds_of_others : (threshold : ℕ) (facts : Facts) → is_blocked threshold facts.count ≡ false → passes threshold facts ≡ false
-    → (kind : Kind) → passes threshold (with_kind facts kind) ≡ not (is_closing kind || is_syn_ack kind)
+pub kinds_of_others : (threshold : ℕ) (facts : Facts) → is_blocked threshold facts.count ≡ false → let_through threshold facts ≡ false
+    → (kind : Kind) → let_through threshold (with_kind facts kind) ≡ not (is_closing kind || is_syn_ack kind)
 kinds_of_others threshold facts b e kind =
     let dropped = sym (when_not_blocked facts.plant facts.cell facts.kind)
     ∙ sym (ap (λ (t : Bool). through t facts.plant facts.cell facts.kind) b) ∙ e in

@@ -26,8 +26,8 @@ verdict_on threshold facts =
     verdict_of false (is_blocked threshold facts.count) (record { plant = facts.plant; cell = facts.cell }) facts.kind
 
 -- the packet is forwarded
-abbrev pub passes : ℕ → Facts → Bool
-passes threshold facts = is_forwarded (verdict_on threshold facts)
+abbrev pub let_through : ℕ → Facts → Bool
+let_through threshold facts = is_forwarded (verdict_on threshold facts)
 
 -- "changing it alone": each fact at another value, and the other three as they are
 abbrev pub with_count : Facts → ℤ → Facts
@@ -63,8 +63,8 @@ kind_values = Udp ∷ (Opening ∷ (SynAck ∷ (Closing ∷ (Plain ∷ []))))
 unfoldable pub reported_on : ℕ → Facts → Reported
 reported_on threshold facts =
     record {
-      count = some_below held_counts (λ number. passes threshold (with_count facts (held_count number)));
-      plant_mark = at_some (λ mark. passes threshold (with_plant facts mark)) mark_values;
-      cell_mark = at_some (λ mark. passes threshold (with_cell facts mark)) mark_values;
-      kind = at_some (λ kind. passes threshold (with_kind facts kind)) kind_values;
+      count = some_below held_counts (λ number. let_through threshold (with_count facts (held_count number)));
+      plant_mark = at_some (λ mark. let_through threshold (with_plant facts mark)) mark_values;
+      cell_mark = at_some (λ mark. let_through threshold (with_cell facts mark)) mark_values;
+      kind = at_some (λ kind. let_through threshold (with_kind facts kind)) kind_values;
     }
