@@ -39,12 +39,14 @@ loop-byte-preserved c =
 
 pub returns-then-not-is_digit : goal.returns-then-not-is_digit
 unfolding record_number
-returns-then-not-is_digit c = rw (le-ltb _ _ c.if-bytes-gt19.false)
-    (ap from_one (number_stops c.args.bytes.now c.loop-byte.value c.loop-byte.byte-index (omega arith) (sym c.is_digit.ensures ∙ c.if-not-is_digit.true)
-    ∙ c.loop-byte.invariant.1))
+returns-then-not-is_digit c =
+    let l = c.loop-byte in
+    let none = number_stops c.args.bytes.now l.value l.byte-index (omega arith) (sym c.is_digit.ensures ∙ c.if-not-is_digit.true) in
+    rw (le-ltb _ _ c.if-bytes-gt19.false) (ap from_one (none ∙ l.invariant.1))
 
 pub returns : goal.returns
 unfolding record_number
-returns c = rw (le-ltb _ _ c.if-bytes-gt19.false)
-    (c.then_some.ensures
-    ∙ ap from_one (number_ends c.args.bytes.now c.loop-byte.value c.loop-byte.byte-index (omega arith) ∙ c.loop-byte.invariant.1))
+returns c =
+    let l = c.loop-byte in
+    let whole = number_ends c.args.bytes.now l.value l.byte-index (omega arith) in
+    rw (le-ltb _ _ c.if-bytes-gt19.false) (c.then_some.ensures ∙ ap from_one (whole ∙ l.invariant.1))
