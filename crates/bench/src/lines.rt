@@ -19,11 +19,15 @@ impl fmt::Display for Told {
             }
             Told::Other(Ok(())) => write!(f, "done"),
             Told::Packet(Ok(Answer::NotOurs)) => write!(f, "0 - -"),
-            Told::Packet(Ok(Answer::Judged {
-                verdict,
-                count,
-                replaced,
-            })) => {
+            Told::Packet(
+                Ok(
+                    Answer::Judged {
+                        verdict,
+                        count,
+                        replaced,
+                    },
+                ),
+            ) => {
                 let number = u8::from(verdict);
                 match replaced {
                     None => write!(f, "{number} {count} -"),

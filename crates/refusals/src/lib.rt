@@ -25,12 +25,7 @@ pub fn of_start(limits: Limits, sizes: Sizes) -> Result<(), Refusal>
 
 // Tests what a time alone is given: it is refused by 1, 2 or 4.
 #[tactic(auto, unfolding(crate::specs::Refusals::start_refusal, crate::specs::Refusals::time_refusal))]
-pub fn of_time(
-    limits: Limits,
-    sizes: Sizes,
-    clock: u32,
-    time: u32,
-) -> Result<(), Refusal>
+pub fn of_time(limits: Limits, sizes: Sizes, clock: u32, time: u32) -> Result<(), Refusal>
     ensures { result ≡ answer_unless (time_refusal limits sizes.records sizes.tags sizes.counts clock time) tt }
 {
     of_start(limits, sizes)?;
