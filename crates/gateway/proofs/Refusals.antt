@@ -2,13 +2,16 @@
 -- Assumes nothing.
 use mathlib.Core.List.{List}
 use mathlib.Core.Path.{◌≡◌, refl}
-use Prim.Native.Nat.{ℕ}
-use Rattle.std.specs.Prelude.{Option, None, Some}
+use Prim.Native.Nat.{ℕ, ◌<◌}
+use native.Mathlib.Omega.{arith}
+use Rattle.std.specs.Prelude.{Option, None, Some, Result, Ok, Err}
 use Rattle.refused.specs.declared.Refusal.{Refusal}
-use Rattle.refused.specs.Refused.{refusal_of}
+use Rattle.refused.specs.declared.Refusal.TheVariants as refusal
+use Rattle.refused.specs.Refused.{refusal_number, refusal_of}
 use Rattle.settings.specs.declared.Limits.{Limits}
 use Rattle.settings.specs.declared.Settings.{Settings}
 use Rattle.packet.specs.Header.{header_of}
+use Rattle.rulings.specs.declared.answers.Answer.{Answer}
 use Rattle.rulings.specs.Rules.{Rules}
 use Rattle.gateway.specs.Packets.{direction_in}
 use Rattle.gateway.specs.Calls.{State, After, after_call, unless_refused, start_refusal_at, cold_state, started, time_refusal_at, onward, passed, packet_refusal, accepted, judged}
@@ -22,6 +25,23 @@ module _ {A : Type 0} (before : State) (after : After A) where
   kept : (refusal : Option Refusal) → (refusal ≡ None → ⊥) → (unless_refused refusal before after).state ≡ before
   kept None ne = absurd (ne refl)
   kept (Some refusal) ne = refl
+
+-- ---- the number of a refusal is never 0, which stands for none
+abbrev pub Numbered : Result Answer Refusal → Type 0
+Numbered (Err refusal) = 0 < refusal_number refusal
+Numbered (Ok answer) = Unit {0}
+
+numbered : (answer : Result Answer Refusal) → Numbered answer
+numbered (Ok answer) = tt
+numbered (Err refusal.Settings) = omega arith
+numbered (Err refusal.Sizes) = omega arith
+numbered (Err refusal.Lists) = omega arith
+numbered (Err refusal.Time) = omega arith
+numbered (Err refusal.Short) = omega arith
+numbered (Err refusal.Header) = omega arith
+numbered (Err refusal.Capture) = omega arith
+numbered (Err refusal.Record) = omega arith
+numbered (Err refusal.Room) = omega arith
 
 module _ (settings : Settings) (time : ℕ) (before : State) where
   pub start_told : refusal_of (started settings time before).answer ≡ start_refusal_at settings.limits before
@@ -48,6 +68,9 @@ module _ (limits : Limits) (time : ℕ) (before : State) where
       packet_told =
           told before (accepted rules limits (header_of bytes) (direction_in cell plant (header_of bytes)) time before)
           (packet_refusal limits cell plant time bytes before)
+
+      pub packet_numbered : Numbered (judged rules limits cell plant time bytes before).answer
+      packet_numbered = numbered _
 
       pub packet_kept : (packet_refusal limits cell plant time bytes before ≡ None → ⊥) → (judged rules limits cell plant time bytes before).state ≡ before
       unfolding judged
