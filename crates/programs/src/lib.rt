@@ -189,12 +189,11 @@ impl World {
     // Begins by the header's bytes, and goes on where it opens.
     fn replay_from(&mut self, header: &[u8], stage: Stage) {
         let begun = turns::begin(self.output, header, &mut self.room);
-        let to = turns::beginning_goes_to(self.output, begun.is_open);
+        let to = turns::beginning_goes_to(self.output, begun.first.is_some());
         let is_written = self.write(to, begun.put);
-        if begun.is_open {
-            self.replay_records(begun.big_endian, is_written);
-        } else {
-            self.tell_beside(turns::written(stage, is_written));
+        match begun.first {
+            Some(first) => self.replay_records(first.big_endian, is_written),
+            None => self.tell_beside(turns::written(stage, is_written)),
         }
     }
 }

@@ -1,6 +1,6 @@
 -- A whole run of a program, from the first byte of standard input: what stands on standard output at its end, and what was said beside it.
 -- Assumes nothing.
-use Rattle.std.specs.Prelude.{Bool, true, false, cond, List, [], ◌∷◌, ◌++◌, ℕ, zero, suc, min, ◌+◌, ◌-◌, ◌<◌, leb, length, take, drop, Result, Ok, Err}
+use Rattle.std.specs.Prelude.{Bool, true, false, cond, List, [], ◌∷◌, ◌++◌, ℕ, zero, suc, min, ◌+◌, ◌-◌, ◌<◌, leb, length, take, drop, Option, None, Some, Result, Ok, Err}
 use Rattle.words.specs.Words.{stored}
 use Rattle.refused.specs.declared.Refusal.{Refusal}
 use Rattle.capture.specs.declared.Cursor.{Cursor}
@@ -160,11 +160,13 @@ module _ (takes : ℕ) (reason : List ℕ) (output : Output) where
       opening : List ℕ
       opening = put_in (room_of b.begun.put b.room)
 
+  abbrev pub replayed_from : ℕ → List ℕ → Run → Beginning → Option Cursor → Said
+  replayed_from turns buffer r b None =
+      said_last (beginning_stream output false) r.turn.stage b.room [] (put_in (room_of b.begun.put b.room))
+  replayed_from turns buffer r b (Some first) = ended (run takes output first.big_endian turns (first_run buffer b r.input))
+
   abbrev pub replayed : ℕ → List ℕ → Run → Beginning → Said
-  replayed turns buffer r b =
-      cond b.begun.is_open
-      (ended (run takes output b.begun.big_endian turns (first_run buffer b r.input)))
-      (said_last (beginning_stream output false) r.turn.stage b.room [] (put_in (room_of b.begun.put b.room)))
+  replayed turns buffer r b = replayed_from turns buffer r b b.begun.first
 
   -- by the header's bytes, unless a read failed
   abbrev pub from_header : ℕ → List ℕ → Run → Said

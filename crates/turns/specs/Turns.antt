@@ -137,11 +137,11 @@ beginning_of begun room = record { begun = begun; room = room }
 abbrev pub begun_by : Output → Result Cursor Refusal → List ℕ → Beginning
 begun_by output (Err refusal) room =
     beginning_of
-    (record { put = (put (header_refused refusal) (room_of 0 room)).end; is_open = false; big_endian = false })
+    (record { put = (put (header_refused refusal) (room_of 0 room)).end; first = None })
     (put (header_refused refusal) (room_of 0 room)).bytes
 begun_by output (Ok cursor) room =
     beginning_of
-    (record { put = (opening_put output (room_of 0 room)).end; is_open = true; big_endian = cursor.big_endian })
+    (record { put = (opening_put output (room_of 0 room)).end; first = Some cursor })
     (opening_put output (room_of 0 room)).bytes
 
 -- ---- a turn

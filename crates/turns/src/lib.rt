@@ -11,6 +11,7 @@ ghost use Rattle.turns.specs.Turns.{first_stage, begun_anew, is_early, refilled_
 ghost use Rattle.turns.specs.Turns.{ends_refused, ending_due, ending_stream, beginning_stream, is_missing, missing_due, lost_words};
 ghost use Rattle.turns.specs.Turns.{beginning_of, begun_by, turn_of, turn_taken};
 
+use capture::Cursor;
 use feeding::Progress;
 use gateway::Gateway;
 use lines::Room;
@@ -41,12 +42,11 @@ pub struct Stage {
     pub is_written: bool,
 }
 
-// How many bytes were put before the first record, whether there are records to come, and their byte order.
+// How many bytes were put before the first record, and where that stands and in which byte order, if the header opens.
 #[derive(Clone, Copy)]
 pub struct Begun {
     pub put: usize,
-    pub is_open: bool,
-    pub big_endian: bool,
+    pub first: Option<Cursor>,
 }
 
 // Before the first turn, where the opening was written or not.
@@ -259,23 +259,14 @@ pub fn begin(output: Output, header: &[u8], room: &mut [u8]) -> Begun
     ensures { beginning_of result room.new ≡ begun_by output (opened_of header.now) room.old }
 {
     let mut out = Room { bytes: room, at: 0 };
-    match capture::open(header) {
-        Ok(cursor) => {
-            outputs::put_opening(output, &mut out);
-            Begun {
-                put: out.at,
-                is_open: true,
-                big_endian: cursor.big_endian,
-            }
-        }
-        Err(refusal) => {
-            endings::put_refused_header(&mut out, refusal);
-            Begun {
-                put: out.at,
-                is_open: false,
-                big_endian: false,
-            }
-        }
+    let opened = capture::open(header);
+    match opened {
+        Ok(_) => outputs::put_opening(output, &mut out),
+        Err(refusal) => endings::put_refused_header(&mut out, refusal),
+    }
+    Begun {
+        put: out.at,
+        first: opened.ok(),
     }
 }
 
