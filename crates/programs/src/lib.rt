@@ -8,7 +8,7 @@ use std::io::{Cursor, Error, Write};
 use std::rt::HostRuntime;
 use std::time::Duration;
 use std::{io, str, thread};
-use turns::{Stage, Stream};
+use turns::{Source, Stage, Stream};
 
 // What a program reads from and writes to, what it is to put out and where it puts that, and by which error its last read failed, if it did.
 #[derive(Drop)]
@@ -142,7 +142,7 @@ impl World {
     fn tell_beside(&mut self, stage: Stage) {
         let put = turns::put_missing(self.output, &mut self.room, stage);
         self.write(Stream::Stderr, put);
-        if stage.is_lost
+        if matches!(stage.source, Source::Lost)
             && let Some(error) = self.error
         {
             self.tell_lost(error);

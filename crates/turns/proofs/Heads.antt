@@ -11,9 +11,9 @@ use lib.Seq.{length-take-le}
 use borrow.Author.Tests.{le-leb, lt-leb, lt-ltb, le-ltb}
 use Rattle.laws.proofs.Tests.{Which, below, above, which, cond_at}
 use Rattle.words.proofs.Words.{stored_length}
-use Rattle.turns.specs.Turns.{none_yet, refilled_stage, goes_on, lacks_header, Turn}
+use Rattle.turns.specs.Turns.{none_yet, refilled_stage, has_ended, is_lost, goes_on, lacks_header, Turn}
 use Rattle.turns.specs.Runs.{Run, joined, AllFull, behind_first, free_of, read, refilled, headed}
-use Rattle.turns.proofs.Windows.{read_behind, got_and_left, full_left}
+use Rattle.turns.proofs.Windows.{lost_so, open_so, read_behind, got_and_left, full_left}
 
 module _ (l room : List ℕ) (fails : Bool) where
   -- what is so while the header is read
@@ -30,9 +30,9 @@ module _ (l room : List ℕ) (fails : Bool) where
 
   -- and how it ends: with all of the header, with all of an input that has fewer bytes, or with a read that failed
   pub data How (r : Run) : Type 0 where
-    whole : r.turn.stage.held ≡ 24 → r.turn.stage.is_lost ≡ false → How r
-    short : joined r.input.pieces ≡ [] → r.turn.stage.is_lost ≡ false → fails ≡ false → How r
-    lost : r.turn.stage.is_lost ≡ true → fails ≡ true → length l < 24 → How r
+    whole : r.turn.stage.held ≡ 24 → is_lost r.turn.stage ≡ false → How r
+    short : joined r.input.pieces ≡ [] → is_lost r.turn.stage ≡ false → fails ≡ false → How r
+    lost : is_lost r.turn.stage ≡ true → fails ≡ true → length l < 24 → How r
 
   pub record Headed (r : Run) : Type 0 where
     pub heading : Heading r
@@ -95,23 +95,23 @@ module _ (l room : List ℕ) (fails : Bool) where
         record { heading = heading; how = by fails refl (omega (arith, all, h)) }
       where
         by : (failed : Bool) → fails ≡ failed → length l < 24 → How (read t out [] fails)
-        by true e few = lost e e few
-        by false e few = short refl e e
+        by true e few = lost (lost_so t.stage (t.stage.held + 0) fails ∙ e) e few
+        by false e few = short refl (lost_so t.stage (t.stage.held + 0) fails ∙ e) e
 
   stays : (turns : ℕ) (r : Run) → lacks_header r.turn.stage ≡ false → headed turns r ≡ r
   unfolding headed
   stays zero r e = refl
   stays (suc turns) r e = cond_at _ r e
 
-  goes : (r : Run) → Heading r → r.turn.stage.has_ended ≡ false → r.turn.stage.is_lost ≡ false → goes_on r.turn.stage ≡ true
+  goes : (r : Run) → Heading r → has_ended r.turn.stage ≡ false → is_lost r.turn.stage ≡ false → goes_on r.turn.stage ≡ true
   goes r g e f = rw (g.written, f, e, g.none_told)
 
   abbrev In : ℕ → Type 0
   In turns =
-      (r : Run) → Heading r → r.turn.stage.has_ended ≡ false → r.turn.stage.is_lost ≡ false → 24 ≤ turns + r.turn.stage.held
+      (r : Run) → Heading r → has_ended r.turn.stage ≡ false → is_lost r.turn.stage ≡ false → 24 ≤ turns + r.turn.stage.held
       → Headed (headed turns r)
 
-  enough_held : (turns : ℕ) (r : Run) → Heading r → r.turn.stage.is_lost ≡ false → 24 ≤ r.turn.stage.held → Headed (headed turns r)
+  enough_held : (turns : ℕ) (r : Run) → Heading r → is_lost r.turn.stage ≡ false → 24 ≤ r.turn.stage.held → Headed (headed turns r)
   enough_held turns r g f h =
       subst Headed (sym (stays turns r (off (goes_on r.turn.stage)))) (record { heading = g; how = whole (omega (arith, h, g.few)) f })
     where
@@ -148,7 +148,8 @@ module _ (l room : List ℕ) (fails : Bool) where
     a_read t out (piece ∷ pieces) g h enough =
         let more = got_some t out piece pieces g h in
         others (read t out (piece ∷ pieces) fails) (heads_on t out piece pieces g)
-        (lt-leb (t.stage.held + length (got t out piece pieces)) t.stage.held (omega (arith, more))) refl (omega (arith, enough, more))
+        (open_so t.stage (t.stage.held + length (got t out piece pieces)) (lt-leb (t.stage.held + length (got t out piece pieces)) t.stage.held (omega (arith, more))))
+        (lost_so t.stage (t.stage.held + length (got t out piece pieces)) false) (omega (arith, enough, more))
 
     one_read : In (suc turns)
     unfolding headed

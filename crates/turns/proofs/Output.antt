@@ -43,7 +43,7 @@ use Rattle.feeding.proofs.Sizes.{AllSized, program_sized}
 use Rattle.feeding.proofs.Whole.{is_long, is_whole}
 use Rattle.feeding.proofs.Pieces.{anew, begun_anew}
 use Rattle.turns.specs.declared.Stage.{Stage}
-use Rattle.turns.specs.Turns.{is_sound, ends_refused, written_stage, ending_due, ending_stream, is_missing, missing_words, missing_due, Beginning, begun_by, first_stage, turn_of, window_of}
+use Rattle.turns.specs.Turns.{is_lost, is_sound, ends_refused, written_stage, ending_due, ending_stream, is_missing, missing_words, missing_due, Beginning, begun_by, first_stage, turn_of, window_of}
 use Rattle.turns.specs.Runs.{Run, joined, AllFull, headed, put_in, put_out, is_taken, run, on_output, Said, lost_text, said_beside, said_last, ended, first_run, replayed, program, beside_of, opened_beside, program_beside}
 use Rattle.turns.proofs.Windows.{put_in_front, cursor_at}
 use Rattle.turns.proofs.Heads.{How, whole as All-there, short, lost, Headed, header_read}
@@ -162,7 +162,7 @@ module _ (header rest : List ℕ) (long : length header ≡ 24) where
 -- ---- what is said at the end
 module _ (takes : ℕ) (reason : List ℕ) (output : Output) where
   -- beside output, by the last stage: that a record is missing, where nothing was lost
-  beside_sound : (s : Stage) (room out beside : List ℕ) → 2064 ≤ length room → is_sound s ≡ true → s.is_lost ≡ false
+  beside_sound : (s : Stage) (room out beside : List ℕ) → 2064 ≤ length room → is_sound s ≡ true → is_lost s ≡ false
       → (said_beside takes reason output s room out beside).beside ≡ beside ++ cond (is_missing output s.progress.records) missing_words []
   beside_sound s room out beside long e f =
       ap (◌++◌ beside)
@@ -172,10 +172,10 @@ module _ (takes : ℕ) (reason : List ℕ) (output : Output) where
 
   -- nothing of the sort, where something was
   unsound : (s : Stage) (room out beside : List ℕ) → 2064 ≤ length room → is_sound s ≡ false
-      → (said_beside takes reason output s room out beside).beside ≡ beside ++ cond s.is_lost (lost_text output reason) []
+      → (said_beside takes reason output s room out beside).beside ≡ beside ++ cond (is_lost s) (lost_text output reason) []
   unsound s room out beside long e =
       let none : missing_due output s ≡ [] = ap (λ (b : Bool). cond (b && is_missing output s.progress.records) missing_words []) e in
-      ap (λ (words : List ℕ). beside ++ (words ++ cond s.is_lost (lost_text output reason) []))
+      ap (λ (words : List ℕ). beside ++ (words ++ cond (is_lost s) (lost_text output reason) []))
       (put_in_lem (missing_due output s) room (omega (arith, long, missing_few output s)) ∙ none)
 
   -- the last lines, on standard output or beside it
@@ -188,7 +188,7 @@ last_out takes reason Lines s room out lines = refl
 last_out takes reason Forwarded s room out lines = refl
 last_out takes reason (Reasons wanted) s room out lines = refl
 
-module _ (takes : ℕ) (reason : List ℕ) (s : Stage) (room out lines : List ℕ) (long : 2064 ≤ length room) (written : s.is_written ≡ true) (found : s.is_lost ≡ false) where
+module _ (takes : ℕ) (reason : List ℕ) (s : Stage) (room out lines : List ℕ) (long : 2064 ≤ length room) (written : s.is_written ≡ true) (found : is_lost s ≡ false) where
   sound_then : (b : Bool) → b ≡ true → is_sound (written_stage s b) ≡ true
   sound_then b e = rw (written, found, e)
 
@@ -276,16 +276,16 @@ no_more_out takes reason output s room out lines within e =
 
 no_more_beside : (takes : ℕ) (reason : List ℕ) (output : Output) (s : Stage) (room out lines : List ℕ) → 2064 ≤ length room
     → ((b : Bool) → is_sound (written_stage s b) ≡ false) → lines ≡ []
-    → (said_last takes reason output (ending_stream output) s room out lines).beside ≡ cond s.is_lost (lost_text output reason) []
+    → (said_last takes reason output (ending_stream output) s room out lines).beside ≡ cond (is_lost s) (lost_text output reason) []
 no_more_beside takes reason Lines s room out lines long off e =
     unsound takes reason Lines (written_stage s (is_taken takes out lines)) room (put_out takes out lines) [] long (off (is_taken takes out lines))
 no_more_beside takes reason Forwarded s room out lines long off e =
     unsound takes reason Forwarded (written_stage s true) room out lines long (off true)
-    ∙ ap (λ (l : List ℕ). l ++ cond s.is_lost (lost_text Forwarded reason) []) e
+    ∙ ap (λ (l : List ℕ). l ++ cond (is_lost s) (lost_text Forwarded reason) []) e
 no_more_beside takes reason (Reasons wanted) s room out lines long off e =
     unsound takes reason (Reasons wanted) (written_stage s (is_taken takes out lines)) room (put_out takes out lines) [] long (off (is_taken takes out lines))
 
-lost_not_sound : (b : Bool) (s : Stage) → s.is_lost ≡ true → is_sound (written_stage s b) ≡ false
+lost_not_sound : (b : Bool) (s : Stage) → is_lost s ≡ true → is_sound (written_stage s b) ≡ false
 lost_not_sound b s e = rw e (go (s.is_written && b))
   where
     go : (t : Bool) → (t && false) ≡ false
@@ -310,7 +310,7 @@ module _ (takes : ℕ) (reason : List ℕ) (output : Output) (r : Run) (room : 2
   unsound_out : (ended takes reason output r).out ≡ r.out
   unsound_out = no_more_out takes reason output r.turn.stage room_after_it r.out lines_of_it within no_lines
 
-  unsound_beside : (ended takes reason output r).beside ≡ cond r.turn.stage.is_lost (lost_text output reason) []
+  unsound_beside : (ended takes reason output r).beside ≡ cond (is_lost r.turn.stage) (lost_text output reason) []
   unsound_beside =
       no_more_beside takes reason output r.turn.stage room_after_it r.out lines_of_it
       (omega (arith, room, same_long (ending_due r.turn.stage) r.turn.room (omega (arith, ap length none_due)))) stays-off no_lines
@@ -445,7 +445,7 @@ module _ (takes : ℕ) (reason : List ℕ) (output : Output) (header : List ℕ)
       counts : Counted output all target
       counts = counted output all (course_of all cursor).records (at_first output program_tables) (record { records = omega arith; refusals = omega arith })
 
-      module _ (found : s.is_lost ≡ false) where
+      module _ (found : is_lost s ≡ false) where
         sound : is_sound s ≡ true
         sound = rw (f.written, found)
 
@@ -489,7 +489,7 @@ module _ (takes : ℕ) (reason : List ℕ) (output : Output) (header : List ℕ)
             (broken_if takes reason output last.out lines f.within (omega (arith, h, ap length whole_is)))
 
       -- a read failed behind what was told: nothing is said of an end
-      module _ (failed : s.is_lost ≡ true) where
+      module _ (failed : is_lost s ≡ true) where
         not_sound : is_sound s ≡ false
         not_sound = rw (f.written, failed)
 
@@ -623,7 +623,7 @@ module _ (takes : ℕ) (reason : List ℕ) (output : Output) (pieces : List (Lis
     split = ap (λ (w : List ℕ). w ++ joined r.input.pieces) window_is ∙ head.heading.split
 
     -- what was read of the header tells what the capture tells
-    opening_told : r.turn.stage.is_lost ≡ false → opened_of window ≡ opened_of capture
+    opening_told : is_lost r.turn.stage ≡ false → opened_of window ≡ opened_of capture
     opening_told e = by head.how
       where
         by : How capture room fails r → opened_of window ≡ opened_of capture
@@ -631,10 +631,10 @@ module _ (takes : ℕ) (reason : List ℕ) (output : Output) (pieces : List (Lis
         by (short none f not-failed) = ap opened_of (sym (append-nil window) ∙ ap (◌++◌ window) (sym none) ∙ split)
         by (lost f g few) = absurd (false≢true (sym e ∙ f))
 
-    read_whole : r.turn.stage.is_lost ≡ false → is_sound r.turn.stage ≡ true
+    read_whole : is_lost r.turn.stage ≡ false → is_sound r.turn.stage ≡ true
     read_whole e = rw (head.heading.written, e)
 
-    said_by : (x : Result Cursor Refusal) → r.turn.stage.is_lost ≡ false → opened_of capture ≡ x
+    said_by : (x : Result Cursor Refusal) → is_lost r.turn.stage ≡ false → opened_of capture ≡ x
         → said ≡ replayed takes reason output turns buffer r (begun_by output x room)
     said_by x e f =
         cond_at (replayed takes reason output turns buffer r (begun_by output (opened_of window) r.turn.room))
@@ -642,7 +642,7 @@ module _ (takes : ℕ) (reason : List ℕ) (output : Output) (pieces : List (Lis
         ∙ (λ i. replayed takes reason output turns buffer r (begun_by output ((opening_told e ∙ f) i) (head.heading.same_room i)))
 
     -- ---- a header that is refused
-    module _ (found : r.turn.stage.is_lost ≡ false) (refused : Refusal) (e : opened_of capture ≡ Err refused) where
+    module _ (found : is_lost r.turn.stage ≡ false) (refused : Refusal) (e : opened_of capture ≡ Err refused) where
       few : length (header_refused refused) ≤ length room
       few = omega (arith, given.room_long, header_few refused)
 
@@ -686,7 +686,7 @@ module _ (takes : ℕ) (reason : List ℕ) (output : Output) (pieces : List (Lis
           (broken_if takes reason output [] lines_put (omega arith) (omega (arith, h, ap length out_is)))
 
     -- ---- a header that opens
-    module _ (found : r.turn.stage.is_lost ≡ false) (cursor : Cursor) (e : opened_of capture ≡ Ok cursor) where
+    module _ (found : is_lost r.turn.stage ≡ false) (cursor : Cursor) (e : opened_of capture ≡ Ok cursor) where
       abbrev whole_capture : List ℕ
       whole_capture = window ++ joined r.input.pieces
 
@@ -756,10 +756,10 @@ module _ (takes : ℕ) (reason : List ℕ) (output : Output) (pieces : List (Lis
           )
 
     -- ---- whichever it is
-    no_loss : fails ≡ false → r.turn.stage.is_lost ≡ false
+    no_loss : fails ≡ false → is_lost r.turn.stage ≡ false
     no_loss e = by head.how
       where
-        by : How capture room fails r → r.turn.stage.is_lost ≡ false
+        by : How capture room fails r → is_lost r.turn.stage ≡ false
         by (All-there h f) = f
         by (short none f not-failed) = f
         by (lost f g few) = absurd (false≢true (sym e ∙ g))
@@ -797,7 +797,7 @@ module _ (takes : ℕ) (reason : List ℕ) (output : Output) (pieces : List (Lis
         → (said.out ≡ (told_of_capture output capture cursor program_tables).bytes) × (said.beside ≡ lost_text output reason)
     lost_says_so e cursor f not-long h = open_lost (by head.how) cursor f e not-long h
       where
-        by : How capture room fails r → r.turn.stage.is_lost ≡ false
+        by : How capture room fails r → is_lost r.turn.stage ≡ false
         by (All-there g k) = k
         by (short none k not-failed) = k
         by (lost k g few) = absurd (omega (arith, (says capture cursor f).long, few))

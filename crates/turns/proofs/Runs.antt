@@ -28,9 +28,9 @@ use Rattle.feeding.proofs.Sizes.{AllSized}
 use Rattle.feeding.proofs.Whole.{is_long, is_whole, sofar, Stops, no_record, no_room, no_bytes, FedSome, fed_some}
 use Rattle.feeding.proofs.Pieces.{anew, begun_anew as told_begun_anew, told_in_pieces, window_due}
 use Rattle.streams.specs.Streams.{Held, shifted}
-use Rattle.turns.specs.Turns.{begun_anew, refilled_stage, written_stage, wants_bytes, goes_on, ends_refused, Turn, turn_of, window_of, fed_of, taken_of, turn_taken}
+use Rattle.turns.specs.Turns.{begun_anew, refilled_stage, written_stage, wants_bytes, has_ended, is_lost, goes_on, ends_refused, Turn, turn_of, window_of, fed_of, taken_of, turn_taken}
 use Rattle.turns.specs.Runs.{Run, joined, AllFull, behind_first, free_of, read, refilled, put_in, is_taken, wrote, told, one_turn, run}
-use Rattle.turns.proofs.Windows.{Shifted, shift_so, read_behind, put_in_front, whole_later, long_later, refusal_later, cursor_at, moved, no_course, never_past, none_read, few_left, got_and_left, full_left, sized_split, sized_anew, sized_window}
+use Rattle.turns.proofs.Windows.{lost_so, open_so, Shifted, shift_so, read_behind, put_in_front, whole_later, long_later, refusal_later, cursor_at, moved, no_course, never_past, none_read, few_left, got_and_left, full_left, sized_split, sized_anew, sized_window}
 
 -- ---- whether a read is to fail is a matter of input
 read_fails : (t : Turn) (out : List ℕ) (pieces : List (List ℕ)) (fails : Bool) → (read t out pieces fails).input.fails ≡ fails
@@ -152,8 +152,8 @@ module _ (takes : ℕ) (output : Output) (big : Bool) (target : Told) (ended : R
       pub full : AllFull r.input.pieces
       pub within : length r.out ≤ takes
       pub written : r.turn.stage.is_written ≡ true
-      pub found : r.turn.stage.is_lost ≡ false
-      pub not_ended : r.turn.stage.has_ended ≡ false
+      pub found : is_lost r.turn.stage ≡ false
+      pub not_ended : has_ended r.turn.stage ≡ false
       pub not_over : r.turn.stage.progress.is_over ≡ false
 
     -- bytes are wanted only where those at hand hold no record, whole or too long
@@ -172,9 +172,9 @@ module _ (takes : ℕ) (output : Output) (big : Bool) (target : Told) (ended : R
       pub written : r.turn.stage.is_written ≡ true
       pub within : length r.out ≤ takes
       pub room : 2064 ≤ length r.turn.room
-      pub ends_so : r.turn.stage.is_lost ≡ false → ends_refused r.turn.stage ≡ eqb (record_refusal ended) 8
-      pub found : r.input.fails ≡ false → r.turn.stage.is_lost ≡ false
-      pub lost : is_long ended ≡ false → r.turn.stage.is_lost ≡ r.input.fails
+      pub ends_so : is_lost r.turn.stage ≡ false → ends_refused r.turn.stage ≡ eqb (record_refusal ended) 8
+      pub found : r.input.fails ≡ false → is_lost r.turn.stage ≡ false
+      pub lost : is_long ended ≡ false → is_lost r.turn.stage ≡ r.input.fails
 
     -- or a write failed: standard output has as much of what is due as it takes
     pub record Broken (r : Run) : Type 0 where
@@ -183,7 +183,7 @@ module _ (takes : ℕ) (output : Output) (big : Bool) (target : Told) (ended : R
       pub stops : goes_on r.turn.stage ≡ false
       pub unwritten : r.turn.stage.is_written ≡ false
       pub room : 2064 ≤ length r.turn.room
-      pub found : r.turn.stage.is_lost ≡ false
+      pub found : is_lost r.turn.stage ≡ false
 
     abbrev pub Over : Run → Type 0
     Over r = Final r ⊎ Broken r
@@ -545,8 +545,8 @@ module _ (takes : ℕ) (output : Output) (big : Bool) (target : Told) (ended : R
                 (left_over d.window (t.stage.held + 0) (next_of d.window front) count refl w.no_whole
                 ∙ ap (λ (k : ℕ). eqb k 8) (sym (refusal_later n (next_of d.window front)))
                 ∙ ap (λ (y : Reading). eqb (record_refusal y) 8) (sym there ∙ done.1));
-            found = λ e. e;
-            lost = λ e. refl;
+            found = λ e. lost_so t.stage (t.stage.held + 0) fails ∙ e;
+            lost = λ e. lost_so t.stage (t.stage.held + 0) fails;
           }
         where
           stopped : (failed : Bool) → t.stage.is_written ≡ true → goes_on (refilled_stage t.stage (t.stage.held + 0) failed) ≡ false
@@ -595,8 +595,8 @@ module _ (takes : ℕ) (output : Output) (big : Bool) (target : Told) (ended : R
             full = full_left (free_of t) piece pieces d.full.1;
             within = d.within;
             written = d.written;
-            found = refl;
-            not_ended = lt-leb (held + length got) held some;
+            found = lost_so t.stage (held + length got) false;
+            not_ended = open_so t.stage (held + length got) (lt-leb (held + length got) held some);
             not_over = d.not_over;
           }
 

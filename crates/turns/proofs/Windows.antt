@@ -1,11 +1,12 @@
 -- What a turn does to the bytes at hand, to the room and to what is due.
 -- Assumes nothing.
-use mathlib.Core.Bool.{Bool, false, false≢true}
+use mathlib.Core.Bool.{Bool, true, false, cond, false≢true}
 use mathlib.Core.List.{List, [], ◌∷◌, ◌++◌, map, append_assoc}
 use mathlib.Core.Path.{◌≡◌, refl, sym, ap, subst, ◌∙◌}
 use mathlib.Core.Logic.{⊎_elim}
 use Prim.Native.Nat.{ℕ, zero, suc, ◌+◌, ◌-◌, ◌≤◌, ◌<◌}
 use native.Mathlib.Omega.{arith}
+use lib.Dec.{leb}
 use lib.ListN.{length, take, drop, length-append, length-drop, take-append-drop}
 use lib.Seq.{paste, take_all, take_at, drop_at, take-add, take-paste, length-paste, take-append_seam, length-take-le}
 use borrow.Author.Tests.{le-leb, lt-leb}
@@ -30,6 +31,21 @@ use Rattle.feeding.proofs.Whole.{is_long, is_whole}
 use Rattle.streams.specs.Streams.{Held, shifted}
 use Rattle.streams.proofs.Shifts as shifts
 use Rattle.turns.specs.Runs.{joined, AllFull, behind_first}
+use Rattle.turns.specs.declared.Stage.{Stage}
+use Rattle.turns.specs.declared.Source.TheVariants.{Open, Ended, Lost}
+use Rattle.turns.specs.Turns.{lost_in, has_ended, is_lost, refilled_stage}
+
+-- ---- what a read tells of input
+lost_by : (failed none : Bool) → lost_in (cond failed Lost (cond none Ended Open)) ≡ failed
+lost_by true none = refl
+lost_by false true = refl
+lost_by false false = refl
+
+pub lost_so : (s : Stage) (held : ℕ) (failed : Bool) → is_lost (refilled_stage s held failed) ≡ failed
+lost_so s held failed = lost_by failed (leb held s.held)
+
+pub open_so : (s : Stage) (held : ℕ) → leb held s.held ≡ false → has_ended (refilled_stage s held false) ≡ false
+open_so s held e = rw e
 
 -- ---- bytes
 -- what is left after the first ones

@@ -15,7 +15,7 @@ use Rattle.feeding.specs.Whole.{told_of_capture, ending_of, program_tables}
 use Rattle.turns.specs.declared.Stage.{Stage}
 use Rattle.turns.specs.declared.Stream.{Stream}
 use Rattle.turns.specs.declared.Stream.TheVariants.{Stdout, Stderr}
-use Rattle.turns.specs.Turns.{Turn, turn_of, window_of, turn_taken, first_stage, refilled_stage, written_stage, is_sound, goes_on, lacks_header, ending_due, ending_stream, beginning_stream, is_missing, missing_words, missing_due, lost_words, Beginning, begun_by}
+use Rattle.turns.specs.Turns.{Turn, turn_of, window_of, turn_taken, first_stage, refilled_stage, written_stage, is_lost, is_sound, goes_on, lacks_header, ending_due, ending_stream, beginning_stream, is_missing, missing_words, missing_due, lost_words, Beginning, begun_by}
 
 -- ---- what is read
 -- what input still brings: bytes, piece by piece as reads may get them, and then its end, or a read that fails. A read that would only have
@@ -128,7 +128,7 @@ module _ (takes : ℕ) (reason : List ℕ) (output : Output) where
   said_beside s room out beside =
       record {
         out = out;
-        beside = beside ++ (put_in (put (missing_due output s) (room_of 0 room)) ++ cond s.is_lost (lost_text output reason) []);
+        beside = beside ++ (put_in (put (missing_due output s) (room_of 0 room)) ++ cond (is_lost s) (lost_text output reason) []);
       }
 
   -- lines that go to a stream, and what is said after them

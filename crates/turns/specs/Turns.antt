@@ -15,8 +15,27 @@ use Rattle.feeding.specs.Feeding.{Replayed, replayed_of, fed}
 use Rattle.streams.specs.Streams.{Held, shifted}
 use Rattle.turns.specs.declared.Stage.{Stage}
 use Rattle.turns.specs.declared.Begun.{Begun}
+use Rattle.turns.specs.declared.Source.{Source}
+use Rattle.turns.specs.declared.Source.TheVariants.{Open, Ended, Lost}
 use Rattle.turns.specs.declared.Stream.{Stream}
 use Rattle.turns.specs.declared.Stream.TheVariants.{Stdout, Stderr}
+
+-- ---- what the last read told of input
+abbrev pub ended_in : Source → Bool
+ended_in Open = false
+ended_in Ended = true
+ended_in Lost = false
+
+abbrev pub lost_in : Source → Bool
+lost_in Open = false
+lost_in Ended = false
+lost_in Lost = true
+
+abbrev pub has_ended : Stage → Bool
+has_ended s = ended_in s.source
+
+abbrev pub is_lost : Stage → Bool
+is_lost s = lost_in s.source
 
 -- ---- where it starts, and goes on from
 abbrev pub none_yet : Progress
@@ -25,7 +44,7 @@ none_yet = record { at = 0; put = 0; records = 0; refusals = 0; has_more = true;
 -- nothing is held, and bytes are wanted
 abbrev pub first_stage : Bool → Stage
 first_stage written =
-    record { held = 0; progress = none_yet; wants_bytes = true; has_ended = false; is_lost = false; is_written = written }
+    record { held = 0; progress = none_yet; wants_bytes = true; source = Open; is_written = written }
 
 -- the same counts, with nothing put and the next record at the front of the bytes at hand
 abbrev pub begun_anew : Progress → Progress
@@ -44,8 +63,7 @@ refilled_stage s held failed =
       held = held;
       progress = s.progress;
       wants_bytes = s.wants_bytes;
-      has_ended = not failed && leb held s.held;
-      is_lost = failed;
+      source = cond failed Lost (cond (leb held s.held) Ended Open);
       is_written = s.is_written;
     }
 
@@ -59,8 +77,7 @@ taken_stage s held p =
       held = held;
       progress = p;
       wants_bytes = wants_bytes p held;
-      has_ended = s.has_ended;
-      is_lost = s.is_lost;
+      source = s.source;
       is_written = s.is_written;
     }
 
@@ -71,18 +88,17 @@ written_stage s written =
       held = s.held;
       progress = s.progress;
       wants_bytes = s.wants_bytes;
-      has_ended = s.has_ended;
-      is_lost = s.is_lost;
+      source = s.source;
       is_written = s.is_written && written;
     }
 
 -- nothing was lost, in or out
 abbrev pub is_sound : Stage → Bool
-is_sound s = s.is_written && not s.is_lost
+is_sound s = s.is_written && not (is_lost s)
 
 -- "After 7 or 8 it stops."
 abbrev pub goes_on : Stage → Bool
-goes_on s = is_sound s && (not s.has_ended && not s.progress.is_over)
+goes_on s = is_sound s && (not (has_ended s) && not s.progress.is_over)
 
 -- the header's 24 bytes are not all held, and more may come
 abbrev pub lacks_header : Stage → Bool

@@ -30,15 +30,22 @@ pub enum Stream {
     Stderr,
 }
 
-// How many bytes of input are held, how far the program has come, whether more bytes are wanted before it comes further, whether input has
-// ended, whether a read failed, and whether all that was put out so far was written.
+// What the last read told of input: it may bring more, it has ended, or the read failed.
+#[derive(Clone, Copy)]
+pub enum Source {
+    Open,
+    Ended,
+    Lost,
+}
+
+// How many bytes of input are held, how far the program has come, whether more bytes are wanted before it comes further, what the last read
+// told of input, and whether all that was put out so far was written.
 #[derive(Clone, Copy)]
 pub struct Stage {
     pub held: usize,
     pub progress: Progress,
     pub wants_bytes: bool,
-    pub has_ended: bool,
-    pub is_lost: bool,
+    pub source: Source,
     pub is_written: bool,
 }
 
@@ -64,8 +71,7 @@ pub fn first(is_written: bool) -> Stage
             is_over: false,
         },
         wants_bytes: true,
-        has_ended: false,
-        is_lost: false,
+        source: Source::Open,
         is_written,
     }
 }
@@ -96,13 +102,15 @@ pub fn refilled(stage: Stage, filled: io::Result<usize>) -> Stage
     match filled {
         Ok(held) => Stage {
             held,
-            has_ended: held <= stage.held,
-            is_lost: false,
+            source: if held <= stage.held {
+                Source::Ended
+            } else {
+                Source::Open
+            },
             ..stage
         },
         Err(_) => Stage {
-            has_ended: false,
-            is_lost: true,
+            source: Source::Lost,
             ..stage
         },
     }
@@ -134,7 +142,7 @@ pub fn written(stage: Stage, is_written: bool) -> Stage
 pub fn is_sound(stage: Stage) -> bool
     ensures { result ≡ is_sound stage }
 {
-    stage.is_written & !stage.is_lost
+    stage.is_written & !matches!(stage.source, Source::Lost)
 }
 
 // Whether there is to be another turn.
@@ -142,7 +150,7 @@ pub fn goes_on(stage: Stage) -> bool
     ensures { result ≡ goes_on stage }
 {
     let progress = stage.progress;
-    is_sound(stage) & (!stage.has_ended & !progress.is_over)
+    is_sound(stage) & (!matches!(stage.source, Source::Ended) & !progress.is_over)
 }
 
 // Whether more of the capture's header, of 24 bytes, is to be read.
