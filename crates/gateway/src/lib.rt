@@ -67,36 +67,15 @@ struct Met {
     count: i16,
 }
 
-// The cell's end of a packet of ours.
-fn cell_of(header: Header, from_plant: bool) -> u32
-    ensures { result ≡ cell_of header from_plant }
+// The ends of a packet of ours: the cell's, and the plant's.
+fn ends_of(header: Header, from_plant: bool) -> (u32, u32)
+    ensures { result ≡ (cell_of header from_plant, plant_of header from_plant) }
 {
     if from_plant {
-        header.destination
+        (header.destination, header.source)
     } else {
-        header.source
+        (header.source, header.destination)
     }
-}
-
-// The plant's end of a packet of ours.
-fn plant_of(header: Header, from_plant: bool) -> u32
-    ensures { result ≡ plant_of header from_plant }
-{
-    if from_plant {
-        header.source
-    } else {
-        header.destination
-    }
-}
-
-// The slot of a packet of ours among a number of records.
-fn slot_of(placing: Placing, header: Header, from_plant: bool, records: u32) -> u32
-    ensures { result ≡ slot_rule placing header from_plant records }
-{
-    let plant = plant_of(header, from_plant);
-    let cell = cell_of(header, from_plant);
-    let port = u32::from(header.port(from_plant));
-    places::slot(&placing.keys, plant, cell, port, records)
 }
 
 // Where a packet of ours is looked up in tables of these lengths.
@@ -104,11 +83,13 @@ fn spot_of(placing: Placing, header: Header, from_plant: bool, sizes: Sizes) -> 
     requires { (sizes.records ≤ 1048576) × (sizes.tags ≤ 1048576) }
     ensures { result ≡ spot_of slot_rule placing header from_plant sizes.records sizes.tags }
 {
+    let (cell, plant) = ends_of(header, from_plant);
+    let port = u32::from(header.port(from_plant));
     let lines = (sizes.tags / 4) as u32;
     Spot {
-        slot: slot_of(placing, header, from_plant, sizes.records as u32) as usize,
+        slot: places::slot(&placing.keys, plant, cell, port, sizes.records as u32) as usize,
         lines,
-        place: places::place_of(&placing.keys, cell_of(header, from_plant), lines),
+        place: places::place_of(&placing.keys, cell, lines),
     }
 }
 
@@ -213,38 +194,9 @@ impl Gateway<'_> {
         self.settle(spot, ruling)
     }
 
-    // Judges a packet by its direction. One that is not ours touches no table. Packets of both directions go by one call, so that the
-    // compiler makes one piece of it all and the keys are not copied for it.
-    #[tactic(auto, unfolding(crate::specs::Packets::by_direction))]
-    fn judge_by_direction(&mut self, limits: Limits, header: Header, direction: Direction) -> Answer
-        requires { bad_sizes (length self.old.records.now) (length self.old.tags.now) (length self.old.counts.now) ≡ false }
-        ensures same_memory { SameMemory self.old self.new }
-        ensures state { after_call result (state_in self.new)
-            ≡ with_outcome (state_in self.old) (by_direction (rules_of limits) self.old.placing header direction (state_in self.old).tables) }
-    {
-        match direction {
-            Direction::NotOurs => Answer::NotOurs,
-            Direction::FromCell | Direction::FromPlant => {
-                let from_plant = matches!(direction, Direction::FromPlant);
-                self.judge_ours(limits, header, from_plant)
-            }
-        }
-    }
-
-    // Passes the time, and then judges a packet whose headers are read.
-    fn accept(&mut self, limits: Limits, header: Header, direction: Direction, time: u32) -> Answer
-        requires { bad_sizes (length self.old.records.now) (length self.old.tags.now) (length self.old.counts.now) ≡ false }
-        ensures same_memory { SameMemory self.old self.new }
-        ensures state { after_call result (state_in self.new)
-            ≡ accepted (rules_of limits) limits header direction time (state_in self.old) }
-    {
-        self.go_on(limits, time);
-        self.judge_by_direction(limits, header, direction)
-    }
-
     // Judges a packet that comes at a time, and brings tables and clock up to it. Answers the verdict with the count and the replaced
     // address. It is refused by 1 to 6, and then nothing is changed.
-    #[tactic(auto, unfolding(crate::specs::Calls::judged, packet::specs::Header::read_of))]
+    #[tactic(auto, unfolding(crate::specs::Calls::judged, packet::specs::Header::read_of, crate::specs::Packets::by_direction))]
     pub fn judge(&mut self, site: Site<'_>, time: u32, packet: &[u8]) -> Result<Answer, Refusal>
         ensures same_memory { SameMemory self.old self.new }
         ensures state { after_call result (state_in self.new)
@@ -261,7 +213,15 @@ impl Gateway<'_> {
         let header = packet::read(packet)?;
         let (from, to) = (header.source, header.destination);
         let direction = sides::direction_between(site.cell, site.plant, from, to);
-        Ok(self.accept(site.limits, header, direction, time))
+        self.go_on(site.limits, time);
+        // Packets of both directions go by one call, so that the compiler makes one piece of it all and the keys are not copied for it.
+        match direction {
+            Direction::NotOurs => Ok(Answer::NotOurs),
+            Direction::FromCell | Direction::FromPlant => {
+                let from_plant = matches!(direction, Direction::FromPlant);
+                Ok(self.judge_ours(site.limits, header, from_plant))
+            }
+        }
     }
 
     // The gateway, to be looked at.
@@ -370,30 +330,10 @@ impl View<'_> {
         )
     }
 
-    // Explains a packet by its direction, at a time.
-    #[tactic(auto, unfolding(crate::specs::Why::why_by_direction))]
-    fn explain_by_direction(
-        self,
-        site: Site<'_>,
-        header: Header,
-        direction: Direction,
-        time: u32,
-    ) -> Explanation
-        requires { bad_sizes (length self.records.now) (length self.tags.now) (length self.counts.now) ≡ false }
-        ensures { result ≡ why_by_direction (rules_of site.entry.limits) self.entry.placing site.entry.cell.now site.entry.plant.now header direction
-            (onward 1 site.entry.limits time (seen_in self.entry)).tables }
-    {
-        match direction {
-            Direction::NotOurs => Explanation::NotOurs,
-            Direction::FromCell => self.explain_ours(site, header, false, time),
-            Direction::FromPlant => self.explain_ours(site, header, true, time),
-        }
-    }
-
     // Why a packet that comes at a time is dropped: which of four facts, changed alone, would have had it forwarded, with the entries of the
     // side lists that decided, the count and T; or the verdict alone where it is not dropped. It is refused as the packet would be. Tables,
     // clock and lists are only read, and no table is swept or copied.
-    #[tactic(auto, unfolding(crate::specs::Why::why_of, packet::specs::Header::read_of))]
+    #[tactic(auto, unfolding(crate::specs::Why::why_of, packet::specs::Header::read_of, crate::specs::Why::why_by_direction))]
     pub fn why(self, site: Site<'_>, time: u32, packet: &[u8]) -> Result<Explanation, Refusal>
         ensures { result
             ≡ why_of (rules_of site.entry.limits) site.entry.limits site.entry.cell.now site.entry.plant.now time packet.now (seen_in self.entry) }
@@ -413,6 +353,12 @@ impl View<'_> {
             ..
         } = header;
         let direction = sides::direction_between(site.cell, site.plant, source, destination);
-        Ok(self.explain_by_direction(site, header, direction, time))
+        match direction {
+            Direction::NotOurs => Ok(Explanation::NotOurs),
+            Direction::FromCell | Direction::FromPlant => {
+                let of_plant = direction == Direction::FromPlant;
+                Ok(self.explain_ours(site, header, of_plant, time))
+            }
+        }
     }
 }
