@@ -7,8 +7,8 @@ ghost use Rattle.sides.specs.Lists.{deciding_entry};
 ghost use Rattle.tables.specs.Sizes.{bad_sizes};
 ghost use Rattle.rulings.specs.Rules.{cell_of, plant_of, slot_rule, rules_of};
 ghost use Rattle.gateway.specs.Packets.{replacement_of, spot_of, ruling_at, settled, ours, by_direction};
-ghost use Rattle.gateway.specs.Calls.{SameMemory, state_in, seen_in, after_call, with_outcome, sizes_of, onward, started, passed, accepted, judged};
-ghost use Rattle.gateway.specs.Why.{met_in, drop_of, why_met, why_ours, why_by_direction, why_of};
+ghost use Rattle.gateway.specs.Calls.{SameMemory, state_in, seen_in, after_call, with_outcome, sizes_of, onward, started, passed, judged};
+ghost use Rattle.gateway.specs.Why.{met_in, drop_of, why_met, why_ours, why_of};
 
 use packet::Header;
 use places::{Place, Placing};
@@ -102,6 +102,7 @@ fn replacement_of(keys: &[u32; 8], lines: u32, line: u32, replaced: Option<u32>)
 }
 
 impl Gateway<'_> {
+    // How many records, tags and counts its tables have.
     fn sizes(&self) -> Sizes
         ensures { result ≡ sizes_of (state_in self.now).tables }
     {
@@ -283,6 +284,7 @@ fn explain_met(site: Site<'_>, header: Header, from_plant: bool, met: Met) -> Ex
 }
 
 impl View<'_> {
+    // How many records, tags and counts its tables have.
     fn sizes(self) -> Sizes
         ensures { result ≡ sizes_of (seen_in self.entry).tables }
     {
