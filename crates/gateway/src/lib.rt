@@ -6,7 +6,7 @@ ghost use Rattle.std.specs.Prelude.{false, ◌≡◌, ◌<◌, ◌≤◌, length
 ghost use Rattle.sides.specs.Lists.{deciding_entry};
 ghost use Rattle.tables.specs.Sizes.{bad_sizes};
 ghost use Rattle.rulings.specs.Rules.{cell_of, plant_of, slot_rule, rules_of};
-ghost use Rattle.gateway.specs.Packets.{replacement_of, spot_of, ruling_at, settled, ours, by_direction};
+ghost use Rattle.gateway.specs.Packets.{replacement_of, spot_of, ruling_at, settled, ours};
 ghost use Rattle.gateway.specs.Calls.{SameMemory, state_in, seen_in, after_call, with_outcome, sizes_of, onward, started, passed, judged};
 ghost use Rattle.gateway.specs.Why.{met_in, drop_of, why_met, why_ours, why_of};
 
