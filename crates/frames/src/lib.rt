@@ -13,7 +13,7 @@ use refused::Refusal;
 use rulings::answers::Answer;
 
 // What a frame holds: too few bytes for its own header, an IPv4 packet behind it, or something else.
-#[derive(Clone, Copy)]
+#[derive(Clone, Copy, PartialEq, Eq)]
 pub enum Inside {
     Short,
     Packet,
@@ -65,12 +65,13 @@ pub fn why(view: View<'_>, site: Site<'_>, time: u32, frame: &[u8]) -> Result<Ex
         ≡ frame_explained (rules_of site.entry.limits) site.entry.limits site.entry.cell.now site.entry.plant.now time frame.now
         (seen_in view.entry) }
 {
-    match what_is_in(frame) {
-        Inside::Short => Err(Refusal::Short),
-        Inside::Packet => {
-            let packet = &frame[14..];
-            view.why(site, time, packet)
-        }
-        Inside::Other => Ok(Explanation::NotOurs),
+    let inside = what_is_in(frame);
+    if inside == Inside::Short {
+        return Err(Refusal::Short);
     }
+    if inside == Inside::Other {
+        return Ok(Explanation::NotOurs);
+    }
+    let packet = &frame[14..];
+    view.why(site, time, packet)
 }
