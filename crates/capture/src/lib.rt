@@ -5,23 +5,20 @@
 ghost use Rattle.std.specs.Prelude.{◌≡◌, ◌+◌, ◌≤◌, length, false};
 ghost use Rattle.capture.specs.Capture.{bad_words, opened_of, head_at, next_of};
 ghost use Rattle.words.specs.Words.{stored};
-ghost use Rattle.capture.specs.Format.{content_of, record_bytes};
+ghost use Rattle.capture.specs.Format.{header_bytes, content_of, record_bytes};
 ghost use Rattle.capture.specs.Writing.{put_of, header_put, record_put};
 
 use refused::Refusal;
 
 const MAGIC: u32 = 0xa1b2c3d4;
 
-// The header that is written, little-endian: the magic, version 2.4, zone 0, accuracy 0, snap length 2,048 and link type 1.
-const WRITTEN: [u8; 24] = [
-    0xd4, 0xc3, 0xb2, 0xa1, 2, 0, 4, 0, 0, 0, 0, 0, 0, 0, 0, 0, 0, 8, 0, 0, 1, 0, 0, 0,
-];
-
 const HEADER: usize = 24;
 
 const RECORD_HEADER: usize = 16;
 
 const MOST_CAPTURED: usize = 2048;
+
+const SNAP_LENGTH: u32 = 2048;
 
 // Where the next record starts among the bytes at hand, and the capture's byte order.
 #[repr(C)]
@@ -122,6 +119,20 @@ pub fn next(bytes: &[u8], cursor: Cursor) -> Reading
     Reading::Whole(record)
 }
 
+// Writes the words of a capture's header into room that is as long.
+fn fill_header(room: &mut [u8])
+    requires { length room.old ≡ 24 }
+    ensures { room.new ≡ stored (header_bytes false) 0 room.old }
+{
+    words::store_four(room, 0, MAGIC, false);
+    words::store_two(room, 4, 2, false);
+    words::store_two(room, 6, 4, false);
+    words::store_four(room, 8, 0, false);
+    words::store_four(room, 12, 0, false);
+    words::store_four(room, 16, SNAP_LENGTH, false);
+    words::store_four(room, 20, 1, false);
+}
+
 // Writes a record, its header and the captured bytes, into room that is as long.
 fn fill_record(room: &mut [u8], seconds: u32, microseconds: u32, original: u32, source: &[u8])
     requires { (length source.now ≤ 2048) × (length room.old ≡ 16 + length source.now) }
@@ -136,13 +147,14 @@ fn fill_record(room: &mut [u8], seconds: u32, microseconds: u32, original: u32, 
 }
 
 // Writes a capture's header into the room at a place, and answers the place of the first record. It is refused by 9 where there is no room.
-#[tactic(auto, unfolding(crate::specs::Writing::header_put, crate::specs::Writing::bytes_put))]
+#[tactic(auto, using(crate::proofs::Writings::put_in_part), unfolding(crate::specs::Writing::header_put, crate::specs::Writing::bytes_put))]
 pub fn put_header(room: &mut [u8], at: usize) -> Result<usize, Refusal>
     ensures { put_of result room.new ≡ header_put at room.old }
 {
     if words::has_room(room.len(), at, HEADER) {
-        words::store(room, at, &WRITTEN);
-        return Ok(at + HEADER);
+        let end = at + HEADER;
+        fill_header(&mut room[at..end]);
+        return Ok(end);
     }
     Err(Refusal::Room)
 }
