@@ -30,6 +30,11 @@ raised_within points ceiling count e =
     ap (larger count) (cond_at (count +ℤ pos points) ceiling e)
     ∙ cond_at (count +ℤ pos points) count (le_z_yes count (count +ℤ pos points) (omega (arith, sum_is count (pos points))))
 
+-- and where it has none, to the ceiling, unless it was above
+pub raised_over : (points : ℕ) (ceiling count : ℤ) → le_z (count +ℤ pos points) ceiling ≡ false → raised_by points ceiling count ≡ larger count ceiling
+unfolding smaller
+raised_over points ceiling count e = ap (larger count) (cond_at (count +ℤ pos points) ceiling e)
+
 -- ---- points of decay
 pub decayed_none : (z : ℤ) → decayed_by 0 z ≡ z
 unfolding decayed_by

@@ -78,6 +78,18 @@ module _ (threshold : ℕ) (facts : Facts) where
 marks_tried : (test : Bool → Bool) {a b : Bool} → a ≡ test true → b ≡ test false → (a || b) ≡ at_some test mark_values
 marks_tried test p q = (λ i. p i || q i) ∙ ap (λ (t : Bool). test true || t) (sym (or-false (test false)))
 
+of_five : (a b c d e : Bool) → ((((a || b) || c) || d) || e) ≡ (a || (b || (c || (d || (e || false)))))
+of_five true b c d e = refl
+of_five false true c d e = refl
+of_five false false true d e = refl
+of_five false false false true e = refl
+of_five false false false false e = sym (or-false e)
+
+pub kinds_tried : (test : Kind → Bool) {a b c d e : Bool} → a ≡ test Udp → b ≡ test Opening → c ≡ test SynAck → d ≡ test Closing → e ≡ test Plain
+    → ((((a || b) || c) || d) || e) ≡ at_some test kind_values
+kinds_tried test p q r s t =
+    (λ i. (((p i || q i) || r i) || s i) || t i) ∙ of_five (test Udp) (test Opening) (test SynAck) (test Closing) (test Plain)
+
 -- ---- what a report says: each fact is reported exactly if some value of it lets the packet through
 -- a value of a list at which a test passes
 at_some_lem : {A : Type 0} (test : A → Bool) (values : List A) → at_some test values ≡ true → (value : A) × (test value ≡ true)

@@ -1,14 +1,16 @@
 -- Where the bytes are there, the number is theirs; where they are not, it is 0. Where they have room they are stored, in one go or in
 -- several. Once over how many bytes they are.
 -- Assumes nothing.
-use mathlib.Core.Path.{◌≡◌, sym, ap, ◌∙◌}
+use mathlib.Core.Bool.{Bool, true, false}
+use mathlib.Core.Path.{◌≡◌, refl, sym, ap, ◌∙◌}
 use mathlib.Core.List.{List, [], ◌∷◌, ◌++◌, append-nil, append_assoc}
 use Prim.Native.Nat.{ℕ, ◌+◌, ◌-◌, ◌≤◌, ◌<◌}
 use lib.ListN.{length, take, drop, length-append, length-take, length-drop, take-append-drop, drop_of_length-le}
 use lib.Seq.{take-length, drop-drop, take_at, drop_at}
 use native.Mathlib.Omega.{arith}
 use borrow.Rule.Slice.PartMut.{mid_of, put_mid, mid_len}
-use borrow.Author.Tests.{le-leb, lt-leb}
+use lib.Dec.{leb}
+use borrow.Author.Tests.{le-leb, lt-leb, leb-true, leb-false}
 use Rattle.laws.proofs.Tests.{Which, below, above, which}
 use Rattle.words.specs.Words.{whole, stored}
 
@@ -20,6 +22,14 @@ module _ (n : ℕ) (f : List ℕ → ℕ → ℕ) (l : List ℕ) (at : ℕ) wher
   pub cut : length l < at + n → whole n f l at ≡ 0
   unfolding whole
   cut h = rw (lt-leb _ _ h)
+
+-- ---- room for bytes
+pub room_left : (at count n : ℕ) → count ≤ n → leb at (n - count) ≡ leb (at + count) n
+room_left at count n h = go (leb (at + count) n) refl
+  where
+    go : (q : Bool) → leb (at + count) n ≡ q → leb at (n - count) ≡ q
+    go true e = le-leb at (n - count) (omega (arith, leb-true (at + count) n e))
+    go false e = lt-leb at (n - count) (omega (arith, h, leb-false (at + count) n e))
 
 -- ---- bytes stored in a room
 module _ (bytes : List ℕ) (at : ℕ) (room : List ℕ) where
@@ -35,7 +45,13 @@ module _ (bytes : List ℕ) (at : ℕ) (room : List ℕ) where
   unfolding stored
   all_at_front part h = rw (le-leb (0 + length bytes) (length part) (omega (arith, h)))
 
-  -- bytes written over the part of the room that they fill leave nothing of it
+  -- stored, they have written over the part of the room that they fill
+  pub stored_over : (end : ℕ) → at + length bytes ≤ length room → end ≡ at + length bytes → put_mid at (end - at) room bytes ≡ stored bytes at room
+  stored_over end h e =
+      let size : end - at ≡ length bytes = omega arith in
+      rw (size, drop-drop (length bytes) at room) (sym (all_stored h))
+
+  -- and have left nothing of it
   pub stored_in_part : (end : ℕ) → at + length bytes ≤ length room → end ≡ at + length bytes
       → put_mid at (end - at) room (take (length bytes) bytes ++ drop (length bytes) (mid_of at (end - at) room)) ≡ stored bytes at room
   stored_in_part end h e =

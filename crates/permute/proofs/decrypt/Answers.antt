@@ -2,7 +2,7 @@
 -- Assumes nothing.
 use Rattle.std.proofs.Common.{◌≡◌, suc, ◌-◌, refl, arith}
 use Rattle.permute.specs.Permutation.{inverses, unrounds, D}
-use Rattle.permute.proofs.Tables.{inverses_undone}
+use Rattle.permute.proofs.Tables.{inverses_small}
 use Rattle.permute.proofs.decrypt.Goals as goal
 
 pub loop-r-init : goal.loop-r-init
@@ -11,7 +11,7 @@ loop-r-init c = refl
 
 pub invariant_of-one_round_back : goal.invariant_of-one_round_back
 unfolding inverses
-invariant_of-one_round_back c = record { small = (inverses_undone (c.loop-r.r - 1) (omega arith)).small }
+invariant_of-one_round_back c = record { small = inverses_small (c.loop-r.r - 1) (omega arith) }
 
 pub loop-r-preserved : goal.loop-r-preserved
 unfolding unrounds inverses
