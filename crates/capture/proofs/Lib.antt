@@ -1,4 +1,5 @@
 -- What the proofs of reading and writing cite, and the theorems over whole captures.
+pub mod Parts
 pub mod Readings
 pub mod Whole
 pub mod Pieces

@@ -70,8 +70,11 @@ fn bad_words(bytes: &[u8], big_endian: bool) -> bool
 pub fn open(bytes: &[u8]) -> Result<Cursor, Refusal>
     ensures { result ≡ opened_of bytes.now }
 {
+    if bytes.len() < HEADER {
+        return Err(Refusal::Capture);
+    }
     let big_endian = words::four_at(bytes, 0) == MAGIC;
-    if bytes.len() < HEADER || bad_words(bytes, big_endian) {
+    if bad_words(bytes, big_endian) {
         return Err(Refusal::Capture);
     }
     Ok(Cursor {
@@ -81,18 +84,20 @@ pub fn open(bytes: &[u8]) -> Result<Cursor, Refusal>
 }
 
 // What a record's header says, where it is all there.
-#[tactic(auto, using(words::proofs::Words::there))]
+#[tactic(auto, using(crate::proofs::Parts::four_there))]
 fn head_at(bytes: &[u8], at: usize, big_endian: bool) -> Record
     requires { at + 16 ≤ length bytes.now }
     ensures { result ≡ head_at big_endian at bytes.now }
 {
-    let captured = words::four_in(bytes, at + 8, big_endian) as usize;
+    // A part of a length that the compiler knows, so that no word of it asks anew whether its bytes are there.
+    let head = &bytes[at..at + RECORD_HEADER];
+    let captured = words::four_in(head, 8, big_endian) as usize;
     let from = at + RECORD_HEADER;
     Record {
-        seconds: words::four_in(bytes, at, big_endian),
-        microseconds: words::four_in(bytes, at + 4, big_endian),
+        seconds: words::four_in(head, 0, big_endian),
+        microseconds: words::four_in(head, 4, big_endian),
         captured,
-        original: words::four_in(bytes, at + 12, big_endian),
+        original: words::four_in(head, 12, big_endian),
         from,
         end: from + captured,
     }

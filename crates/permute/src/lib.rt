@@ -81,8 +81,10 @@ pub fn encrypt(keys: &[u32; 8], word: u32) -> u32
     ensures { result ≡ E keys.now word }
 {
     let mut y = word;
-    for (images, key) in BOXES.iter().zip(keys) {
-        y = Sbox { images }.one_round(*key, y);
+    // Kept: the index r, as document 01 names the form of this place: the boxes are "indexed by round and nibble".
+    for r in 0..8usize {
+        let images = &BOXES[r];
+        y = Sbox { images }.one_round(keys[r], y);
     }
     y
 }
@@ -92,7 +94,6 @@ pub fn decrypt(keys: &[u32; 8], word: u32) -> u32
     ensures { result ≡ D keys.now word }
 {
     let mut y = word;
-    // Kept: the index r, as `INVERSES.iter().zip(keys).rev()` was not proved: of a zip's end the library has no lemma.
     for r in (0..8usize).rev() {
         let images = &INVERSES[r];
         y = Sbox { images }.one_round_back(keys[r], y);

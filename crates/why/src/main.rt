@@ -15,16 +15,17 @@ enum BadArguments {
     NoNumber,
 }
 
+// The whole line, so that it goes out in one write.
 impl fmt::Display for BadArguments {
     fn fmt<W: fmt::Write>(&self, f: &mut fmt::Formatter<W>) -> fmt::Result {
         match self {
             BadArguments::TooMany => write!(
                 f,
-                "more than one argument: give one record number, or none for every dropped record",
+                "why: more than one argument: give one record number, or none for every dropped record\n",
             ),
             BadArguments::NoNumber => write!(
                 f,
-                "the argument is no record number: give a number from 1 on, or none for every dropped record",
+                "why: the argument is no record number: give a number from 1 on, or none for every dropped record\n",
             ),
         }
     }
@@ -53,7 +54,7 @@ fn main(rt: HostRuntime) {
     match wanted(&rt) {
         Ok(output) => programs::replay(&rt, output),
         Err(fault) => {
-            let _ = writeln!(rt.stderr(), "why: {fault}");
+            let _ = write!(rt.stderr(), "{fault}");
         }
     }
 }
