@@ -12,6 +12,7 @@ use Rattle.refused.specs.declared.Refusal.{Refusal}
 use Rattle.refused.specs.declared.Refusal.TheVariants.{Settings, Sizes, Lists, Time, Short, Header, Capture, Record, Room}
 use Rattle.verdicts.specs.declared.Verdict.{Verdict}
 use Rattle.verdicts.specs.declared.Verdict.TheVariants.{Uncounted, CreditOfOne, CreditOfTwo, FreshContact, Hygiene, Blocked}
+use Rattle.verdicts.specs.Verdicts.{number_of}
 use Rattle.rulings.specs.declared.answers.Answer.{Answer}
 use Rattle.rulings.specs.declared.answers.Answer.TheVariants.{NotOurs, Judged}
 use Rattle.rulings.specs.Answers.{verdict_told}
@@ -23,7 +24,7 @@ use Rattle.tally.specs.declared.Tally.{Tally}
 use Rattle.tally.specs.Tally.{tallied, verdict_numbered}
 use Rattle.tally.proofs.Totals.{is_numbered}
 use Rattle.embed.specs.declared.plain.PlainAnswer.{PlainAnswer}
-use Rattle.embed.specs.Plain.{plain_answer, by_refusal, verdict_in}
+use Rattle.embed.specs.Plain.{plain_judged, plain_told, plain_answer, by_refusal, verdict_in}
 
 -- ---- the way back
 verdict_back : ℕ → Verdict
@@ -46,30 +47,38 @@ refusal_back n =
     (cond (eqb n 3) Lists
     (cond (eqb n 4) Time (cond (eqb n 5) Short (cond (eqb n 6) Header (cond (eqb n 7) Capture (cond (eqb n 8) Record Room)))))))
 
-refused_back : ℕ → Answer → Result Answer Refusal
-refused_back zero other = Ok other
-refused_back (suc n) other = Err (refusal_back (suc n))
+refused_back : {E : Type 0} → (ℕ → E) → ℕ → Answer → Result Answer E
+refused_back refusal zero other = Ok other
+refused_back refusal (suc n) other = Err (refusal (suc n))
 
+back_by : {E : Type 0} → (ℕ → E) → PlainAnswer → Result Answer E
+back_by refusal p = refused_back refusal p.refusal (judged_back p.verdict p.count (replaced_back p.replaced p.address))
+
+-- to an answer whose refusal is one of the nine, and to one that tells it by its number
 pub answer_back : PlainAnswer → Result Answer Refusal
-answer_back p = refused_back p.refusal (judged_back p.verdict p.count (replaced_back p.replaced p.address))
+answer_back p = back_by refusal_back p
 
-judged_back_lem : (v : Verdict) (c : ℤ) (replaced : Option ℕ) → answer_back (plain_answer (Ok (Judged v c replaced))) ≡ Ok (Judged v c replaced)
-unfolding answer_back refused_back judged_back verdict_back replaced_back
-judged_back_lem Uncounted c None = refl
-judged_back_lem Uncounted c (Some a) = refl
-judged_back_lem CreditOfOne c None = refl
-judged_back_lem CreditOfOne c (Some a) = refl
-judged_back_lem CreditOfTwo c None = refl
-judged_back_lem CreditOfTwo c (Some a) = refl
-judged_back_lem FreshContact c None = refl
-judged_back_lem FreshContact c (Some a) = refl
-judged_back_lem Hygiene c None = refl
-judged_back_lem Hygiene c (Some a) = refl
-judged_back_lem Blocked c None = refl
-judged_back_lem Blocked c (Some a) = refl
+pub number_back : PlainAnswer → Result Answer ℕ
+number_back p = back_by (λ n. n) p
+
+judged_back_lem : {E : Type 0} (refusal : ℕ → E) (v : Verdict) (c : ℤ) (replaced : Option ℕ)
+    → back_by refusal (plain_judged (number_of v) c replaced) ≡ Ok (Judged v c replaced)
+unfolding back_by refused_back judged_back verdict_back replaced_back
+judged_back_lem refusal Uncounted c None = refl
+judged_back_lem refusal Uncounted c (Some a) = refl
+judged_back_lem refusal CreditOfOne c None = refl
+judged_back_lem refusal CreditOfOne c (Some a) = refl
+judged_back_lem refusal CreditOfTwo c None = refl
+judged_back_lem refusal CreditOfTwo c (Some a) = refl
+judged_back_lem refusal FreshContact c None = refl
+judged_back_lem refusal FreshContact c (Some a) = refl
+judged_back_lem refusal Hygiene c None = refl
+judged_back_lem refusal Hygiene c (Some a) = refl
+judged_back_lem refusal Blocked c None = refl
+judged_back_lem refusal Blocked c (Some a) = refl
 
 refused_back_lem : (r : Refusal) → answer_back (plain_answer (Err r)) ≡ Err r
-unfolding answer_back refused_back refusal_back
+unfolding answer_back back_by refused_back refusal_back
 refused_back_lem Settings = refl
 refused_back_lem Sizes = refl
 refused_back_lem Lists = refl
@@ -82,14 +91,26 @@ refused_back_lem Room = refl
 
 -- so that two answers with the same numbers are one
 pub comes_back : (a : Result Answer Refusal) → answer_back (plain_answer a) ≡ a
-unfolding answer_back refused_back judged_back
+unfolding answer_back back_by refused_back judged_back
 comes_back (Err r) = refused_back_lem r
 comes_back (Ok NotOurs) = refl
-comes_back (Ok (Judged v c replaced)) = judged_back_lem v c replaced
+comes_back (Ok (Judged v c replaced)) = judged_back_lem refusal_back v c replaced
+
+-- and so it is where a refusal is told by any number that tells it from none
+abbrev pub Numbered : Result Answer ℕ → Type 0
+Numbered (Err zero) = ⊥
+Numbered (Err (suc n)) = Unit {0}
+Numbered (Ok answer) = Unit {0}
+
+pub number_comes_back : (a : Result Answer ℕ) → Numbered a → number_back (plain_told a) ≡ a
+unfolding number_back back_by refused_back judged_back
+number_comes_back (Err zero) numbered = absurd numbered
+number_comes_back (Err (suc n)) numbered = refl
+number_comes_back (Ok NotOurs) numbered = refl
+number_comes_back (Ok (Judged v c replaced)) numbered = judged_back_lem (λ n. n) v c replaced
 
 -- ---- what the tally takes
-judged_verdict : (v : Verdict) (c : ℤ) (replaced : Option ℕ)
-    → verdict_in (plain_answer (Ok (Judged v c replaced))) ≡ verdict_told (Ok (Judged v c replaced))
+judged_verdict : (v : Verdict) (c : ℤ) (replaced : Option ℕ) → verdict_in (plain_judged (number_of v) c replaced) ≡ Some (number_of v)
 judged_verdict v c None = is_numbered v
 judged_verdict v c (Some a) = is_numbered v
 
@@ -109,6 +130,13 @@ unfolding verdict_numbered
 same_verdict (Err r) = refused_verdict r
 same_verdict (Ok NotOurs) = refl
 same_verdict (Ok (Judged v c replaced)) = judged_verdict v c replaced
+
+pub number_same_verdict : (a : Result Answer ℕ) → Numbered a → verdict_in (plain_told a) ≡ verdict_told a
+unfolding verdict_numbered
+number_same_verdict (Err zero) numbered = absurd numbered
+number_same_verdict (Err (suc n)) numbered = refl
+number_same_verdict (Ok NotOurs) numbered = refl
+number_same_verdict (Ok (Judged v c replaced)) numbered = judged_verdict v c replaced
 
 -- ---- every answer that crosses
 module _ (rules : Rules) (limits : Limits) (cell plant : List ℕ) (time : ℕ) (before : State) where

@@ -31,11 +31,16 @@ plain_judged verdict count None = record { refusal = 0; verdict = verdict; count
 plain_judged verdict count (Some address) = record { refusal = 0; verdict = verdict; count = count; replaced = 1; address = address }
 
 -- "The answer of a refusal is its number alone." "The answer holds the verdict, the address's count after it, and the replaced address,
--- if any". "Verdict 0 has no count."
+-- if any". "Verdict 0 has no count." Of a refusal that is told by a number, whatever that is:
+abbrev pub plain_told : Result Answer ℕ → PlainAnswer
+plain_told (Err number) = record { refusal = number; verdict = 0; count = pos 0; replaced = 0; address = 0 }
+plain_told (Ok NotOurs) = record { refusal = 0; verdict = 0; count = pos 0; replaced = 0; address = 0 }
+plain_told (Ok (Judged verdict count replaced)) = plain_judged (number_of verdict) count replaced
+
+-- and of one of the nine
 abbrev pub plain_answer : Result Answer Refusal → PlainAnswer
-plain_answer (Err refusal) = record { refusal = refusal_number refusal; verdict = 0; count = pos 0; replaced = 0; address = 0 }
-plain_answer (Ok NotOurs) = record { refusal = 0; verdict = 0; count = pos 0; replaced = 0; address = 0 }
-plain_answer (Ok (Judged verdict count replaced)) = plain_judged (number_of verdict) count replaced
+plain_answer (Err refusal) = plain_told (Err (refusal_number refusal))
+plain_answer (Ok answer) = plain_told (Ok answer)
 
 -- ---- the tally
 -- the verdict that an answer in plain numbers tells, whoever wrote it

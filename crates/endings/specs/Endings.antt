@@ -1,9 +1,8 @@
 -- Document 01, "The printing program": how what it prints ends. The program that writes a capture says the same on standard error.
 -- Assumes nothing.
 use Rattle.std.specs.Prelude.{ℕ, ◌+◌, ◌%◌, ◌^◌, Bool, cond, List, ◌++◌, Err}
-use Rattle.refused.specs.declared.Refusal.{Refusal}
 use Rattle.refused.specs.declared.Refusal.TheVariants.{Record}
-use Rattle.lines.specs.Lines.{line, last_line}
+use Rattle.lines.specs.Lines.{refused_line, line, last_line}
 
 -- records and refusals are counted in 64 bits
 abbrev pub one_more : ℕ → ℕ
@@ -17,5 +16,5 @@ ending refused records refusals =
     (last_line records refusals)
 
 -- "Refusal 7 prints as record 0."
-abbrev pub header_refused : Refusal → List ℕ
-header_refused refusal = line 0 (Err refusal) ++ last_line 0 1
+abbrev pub header_refused : ℕ → List ℕ
+header_refused number = refused_line 0 number ++ last_line 0 1

@@ -29,11 +29,11 @@ pub fn put_ending(room: &mut Room, records: u64, refusals: u64, is_refused: bool
     }
 }
 
-// Puts all that is printed of a capture whose header is refused.
-pub fn put_refused_header(room: &mut Room, refusal: Refusal)
+// Puts all that is printed of a capture whose header is refused, by the refusal's number, which may be any.
+pub fn put_refused_header(room: &mut Room, number: u8)
     ensures same { room.new.bytes.ghost_name ≡ room.old.bytes.ghost_name }
-    ensures put { room_in room.new ≡ put (header_refused refusal) (room_in room.old) }
+    ensures put { room_in room.new ≡ put (header_refused number) (room_in room.old) }
 {
-    room.line(0, Err(refusal));
+    room.refused_line(0, number);
     room.last_line(0, 1);
 }

@@ -1,21 +1,13 @@
--- A record that is refused otherwise than by 4, 5 or 6 is told of without a reason.
+-- What is told of a record that is refused goes by the refusal's number.
 -- Assumes nothing.
 use mathlib.Core.Path.{◌≡◌, refl}
+use Prim.Native.Nat.{ℕ}
+use Rattle.std.specs.Prelude.{Option, None, Some, Err}
 use Rattle.refused.specs.declared.Refusal.{Refusal}
-use Rattle.refused.specs.declared.Refusal.TheVariants.{Settings, Sizes, Lists, Time, Short, Header, Capture, Record, Room}
 use Rattle.refused.specs.Refused.{refusal_number}
-use Rattle.lines.specs.Letters.{text}
-use Rattle.explanations.specs.Explanations.{refused_words}
+use Rattle.explanations.specs.Explanations.{refused_asked, asked_text}
 
-pub other_words : (r : Refusal) → (r ≡ Time → ⊥) → (r ≡ Short → ⊥) → (r ≡ Header → ⊥)
-    → text "\n  It was refused, and not judged.\n" ≡ refused_words (refusal_number r)
-unfolding refused_words
-other_words Settings t s h = refl
-other_words Sizes t s h = refl
-other_words Lists t s h = refl
-other_words Time t s h = absurd (t refl)
-other_words Short t s h = absurd (s refl)
-other_words Header t s h = absurd (h refl)
-other_words Capture t s h = refl
-other_words Record t s h = refl
-other_words Room t s h = refl
+pub told_refused : (wanted : Option ℕ) (number seconds : ℕ) (refusal : Refusal)
+    → refused_asked wanted number (refusal_number refusal) ≡ asked_text wanted number seconds (Some (Err refusal))
+told_refused None number seconds refusal = refl
+told_refused (Some wanted) number seconds refusal = refl

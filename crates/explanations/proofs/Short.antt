@@ -30,7 +30,7 @@ use Rattle.explanations.specs.declared.Report.{Report}
 use Rattle.std.specs.Bool.{then_some}
 use Rattle.packet.specs.Kinds.{ported}
 use Rattle.explanations.specs.Values.{kind_word, kind_words, is_blocking, kinds_that_pass, source_port, destination_port, port_word, port_words, entry_text, value_of, letter_text, is_mark, filled}
-use Rattle.explanations.specs.Explanations.{said, of_facts, first_line, who_and_whom, by_plant_mark, situation, ways_through, drop_text, forwarded_text, not_ours_text, refused_words, refused_text, explanation_text, is_told, asked_text}
+use Rattle.explanations.specs.Explanations.{said, of_facts, first_line, who_and_whom, by_plant_mark, situation, ways_through, drop_text, forwarded_text, not_ours_text, refused_words, refused_text, refused_asked, explanation_text, is_told, asked_text}
 
 -- ---- what the types of an explanation's parts say of them
 pub record DropSized (drop : Drop) : Type 0 where
@@ -290,7 +290,27 @@ refused_short number =
     (or_else (eqb number 6) _ (record { few = omega arith })
     (record { few = omega arith })))
 
--- what is told of a record has room in 1,554 bytes
+-- what is told of a record that is refused, by any number of a byte, has room in 1,554 bytes
+pub refused_asked_short : (wanted : Option ℕ) (number refusal : ℕ) → number < 2 ^ 64 → refusal < 2 ^ 8
+    → length (refused_asked wanted number refusal) ≤ 1554
+unfolding text
+refused_asked_short None number refusal n small = omega arith
+refused_asked_short (Some wanted) number refusal n small =
+    (or_else (eqb number wanted) (decimal number ++ refused_text refusal) {y = []}
+    (record {
+      few = omega (
+        arith,
+        long_number number n,
+        long_number refusal (omega (arith, small)),
+        (refused_short refusal).few,
+        length-append (decimal number) (refused_text refusal),
+        length-append (text " R ") (decimal refusal ++ refused_words refusal),
+        length-append (decimal refusal) (refused_words refusal),
+      );
+    })
+    (record { few = omega arith })).few
+
+-- and so has what is told of any record
 pub asked_short : (wanted : Option ℕ) (number seconds : ℕ) (asked : Option (Result Explanation Refusal)) → number < 2 ^ 64 → seconds < 2 ^ 32 → AskedSized asked
     → length (asked_text wanted number seconds asked) ≤ 1554
 unfolding text

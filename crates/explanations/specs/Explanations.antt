@@ -88,6 +88,11 @@ refused_words number =
 abbrev pub refused_text : ℕ → List ℕ
 refused_text number = text " R " ++ (decimal number ++ refused_words number)
 
+-- of a record that is refused, by its number and the refusal's, whatever that is: where it is the one that is asked for by its number
+abbrev pub refused_asked : Option ℕ → ℕ → ℕ → List ℕ
+refused_asked None number refusal = []
+refused_asked (Some wanted) number refusal = cond (eqb number wanted) (decimal number ++ refused_text refusal) []
+
 -- ---- of a record, by its number and its second
 abbrev pub explanation_text : ℕ → ℕ → Result Explanation Refusal → List ℕ
 explanation_text number seconds (Err refusal) = decimal number ++ refused_text (refusal_number refusal)

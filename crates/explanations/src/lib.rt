@@ -2,13 +2,12 @@
 // about a packet that was dropped, a letter behind "%" stands for a value.
 #![tactic(auto, using(lines::proofs::Rooms::put_more), unfolding(lines::specs::Room::put, lines::specs::Letters::text))]
 
-ghost use Rattle.std.specs.Prelude.{◌≡◌, cond, false, []};
+ghost use Rattle.std.specs.Prelude.{◌≡◌, cond, false, [], Ok};
 ghost use Rattle.packet.specs.Kinds.{ported};
-ghost use Rattle.refused.specs.Refused.{refusal_number};
 ghost use Rattle.lines.specs.Room.{put};
 ghost use Rattle.lines.specs.Rooms.{room_in};
 ghost use Rattle.explanations.specs.Values.{kind_word, kind_words, is_blocking, kinds_that_pass, source_port, destination_port, port_word, port_words, entry_text, value_of, letter_text, filled};
-ghost use Rattle.explanations.specs.Explanations.{of_facts, first_line, who_and_whom, by_plant_mark, situation, ways_through, drop_text, forwarded_text, refused_words, refused_text, explanation_text, is_drop, is_told, asked_text};
+ghost use Rattle.explanations.specs.Explanations.{of_facts, first_line, who_and_whom, by_plant_mark, situation, ways_through, drop_text, forwarded_text, refused_words, refused_text, refused_asked, explanation_text, is_drop, is_told, asked_text};
 
 use lines::Room;
 use packet::Header;
@@ -332,58 +331,61 @@ fn forwarded_text(verdict: Verdict) -> &'static [u8]
     }
 }
 
-// What a refusal means.
-#[tactic(auto, using(crate::proofs::Refusals::other_words), unfolding(lines::specs::Letters::text, crate::specs::Explanations::refused_words))]
-fn refused_words(refusal: Refusal) -> &'static [u8]
-    ensures { result.now ≡ refused_words (refusal_number refusal) }
+// What a refusal means, by its number.
+// Kept: the number may be any, of which the enum has nine.
+#[tactic(auto, unfolding(lines::specs::Letters::text, crate::specs::Explanations::refused_words))]
+fn refused_words(refusal: u8) -> &'static [u8]
+    ensures { result.now ≡ refused_words refusal }
 {
     match refusal {
-        Refusal::Time =>
-            b"\n  It was refused, and not judged: its time is before the clock (refusal 4).\n",
-        Refusal::Short =>
-            b"\n  It was refused, and not judged: its header bytes end too soon (refusal 5).\n",
-        Refusal::Header =>
+        4 => b"\n  It was refused, and not judged: its time is before the clock (refusal 4).\n",
+        5 => b"\n  It was refused, and not judged: its header bytes end too soon (refusal 5).\n",
+        6 =>
             b"\n  It was refused, and not judged: it has no IPv4 header that can be read (refusal 6).\n",
         _ => b"\n  It was refused, and not judged.\n",
     }
 }
 
 // A refusal.
-fn put_refused(room: &mut Room, refusal: Refusal)
+fn put_refusal(room: &mut Room, refusal: u8)
     ensures same { room.new.bytes.ghost_name ≡ room.old.bytes.ghost_name }
-    ensures put { room_in room.new ≡ put (refused_text (refusal_number refusal)) (room_in room.old) }
+    ensures put { room_in room.new ≡ put (refused_text refusal) (room_in room.old) }
 {
     room.text(b" R ");
-    room.decimal(u8::from(refusal) as u64);
+    room.decimal(refusal as u64);
     room.text(refused_words(refusal));
 }
 
-// What is told of a record, whatever its verdict.
-fn put_explanation(
-    room: &mut Room,
-    number: u64,
-    seconds: u32,
-    explanation: Result<Explanation, Refusal>,
-)
+// Puts what is told of a record that is refused, by its number and the refusal's, which may be any: where it is the one that is wanted.
+pub fn put_refused(room: &mut Room, wanted: Option<u64>, number: u64, refusal: u8)
     ensures same { room.new.bytes.ghost_name ≡ room.old.bytes.ghost_name }
-    ensures put { room_in room.new ≡ put (explanation_text number seconds explanation) (room_in room.old) }
+    ensures put { room_in room.new ≡ put (refused_asked wanted number refusal) (room_in room.old) }
+{
+    if let Some(wanted) = wanted {
+        if number == wanted {
+            room.decimal(number);
+            put_refusal(room, refusal);
+        }
+    }
+}
+
+// What is told of a record that is answered, whatever its verdict.
+fn put_explanation(room: &mut Room, number: u64, seconds: u32, explanation: Explanation)
+    ensures same { room.new.bytes.ghost_name ≡ room.old.bytes.ghost_name }
+    ensures put { room_in room.new ≡ put (explanation_text number seconds (Ok explanation)) (room_in room.old) }
 {
     match explanation {
-        Err(refusal) => {
-            room.decimal(number);
-            put_refused(room, refusal);
-        }
-        Ok(Explanation::NotOurs) => {
+        Explanation::NotOurs => {
             room.decimal(number);
             room.text(
                 b" 0\n  It was forwarded: it is no IPv4 packet between the cell and the plant (verdict 0).\n",
             );
         }
-        Ok(Explanation::Forwarded(verdict)) => {
+        Explanation::Forwarded(verdict) => {
             room.decimal(number);
             room.text(forwarded_text(verdict));
         }
-        Ok(Explanation::Dropped(drop)) => put_drop(
+        Explanation::Dropped(drop) => put_drop(
             room,
             Report {
                 number,
@@ -395,15 +397,15 @@ fn put_explanation(
 }
 
 // Whether it is told why a packet was dropped.
-fn is_drop(explanation: Result<Explanation, Refusal>) -> bool
-    ensures { result ≡ is_drop explanation }
+fn is_drop(explanation: Explanation) -> bool
+    ensures { result ≡ is_drop (Ok explanation) }
 {
-    matches!(explanation, Ok(Explanation::Dropped(_)))
+    matches!(explanation, Explanation::Dropped(_))
 }
 
-// Whether a record is told of: the one with the number that is wanted, and each that was dropped where none is.
-fn is_told(wanted: Option<u64>, number: u64, explanation: Result<Explanation, Refusal>) -> bool
-    ensures { result ≡ is_told wanted number explanation }
+// Whether a record that is answered is told of: the one with the number that is wanted, and each that was dropped where none is.
+fn is_told(wanted: Option<u64>, number: u64, explanation: Explanation) -> bool
+    ensures { result ≡ is_told wanted number (Ok explanation) }
 {
     match wanted {
         None => is_drop(explanation),
@@ -413,6 +415,7 @@ fn is_told(wanted: Option<u64>, number: u64, explanation: Result<Explanation, Re
 
 // Puts what is told of a record, by its number and second, where it is asked why: of the one with the number that is wanted, and of each that
 // was dropped where none is.
+#[tactic(auto, using(lines::proofs::Rooms::put_more, crate::proofs::Refusals::told_refused), unfolding(lines::specs::Room::put))]
 pub fn put_asked(
     room: &mut Room,
     wanted: Option<u64>,
@@ -423,9 +426,13 @@ pub fn put_asked(
     ensures same { room.new.bytes.ghost_name ≡ room.old.bytes.ghost_name }
     ensures put { room_in room.new ≡ put (asked_text wanted number seconds asked) (room_in room.old) }
 {
-    if let Some(explanation) = asked {
-        if is_told(wanted, number, explanation) {
-            put_explanation(room, number, seconds, explanation);
+    match asked {
+        None => {}
+        Some(Err(refusal)) => put_refused(room, wanted, number, u8::from(refusal)),
+        Some(Ok(explanation)) => {
+            if is_told(wanted, number, explanation) {
+                put_explanation(room, number, seconds, explanation);
+            }
         }
     }
 }

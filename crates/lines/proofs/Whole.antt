@@ -21,7 +21,7 @@ use Rattle.verdicts.specs.declared.Verdict.{Verdict}
 use Rattle.verdicts.specs.declared.Verdict.TheVariants.{Uncounted, CreditOfOne, CreditOfTwo, FreshContact, Hygiene, Blocked}
 use Rattle.verdicts.specs.Verdicts.{number_of}
 use Rattle.lines.specs.Text.{dot, space, digit, digits_in, decimal, signed, dotted, or_dash}
-use Rattle.lines.specs.Lines.{newline, answer_text, line, last_line}
+use Rattle.lines.specs.Lines.{newline, refusal_text, answer_text, refused_line, line, last_line}
 use Rattle.lines.specs.Room.{room_of, put_byte, put}
 
 -- ---- a text for which there is room is put whole
@@ -112,19 +112,19 @@ judged_short verdict count replaced h g =
     )
 
 -- a refusal's number has one digit
+pub refusal_small : (refusal : Refusal) → refusal_number refusal < 10
+refusal_small Settings = omega arith
+refusal_small Sizes = omega arith
+refusal_small Lists = omega arith
+refusal_small Time = omega arith
+refusal_small Short = omega arith
+refusal_small Header = omega arith
+refusal_small Capture = omega arith
+refusal_small Record = omega arith
+refusal_small Room = omega arith
+
 pub refusal_digit : (refusal : Refusal) → length (decimal (refusal_number refusal)) ≤ 1
-refusal_digit refusal = few (refusal_number refusal) 0 (refusal_number refusal) (small refusal)
-  where
-    small : (r : Refusal) → refusal_number r < 10
-    small Settings = omega arith
-    small Sizes = omega arith
-    small Lists = omega arith
-    small Time = omega arith
-    small Short = omega arith
-    small Header = omega arith
-    small Capture = omega arith
-    small Record = omega arith
-    small Room = omega arith
+refusal_digit refusal = few (refusal_number refusal) 0 (refusal_number refusal) (refusal_small refusal)
 
 answer_short : (answer : Result Answer Refusal) → InRange answer → length (answer_text answer) ≤ 24
 unfolding digits_in
@@ -146,6 +146,17 @@ line_short number answer h g =
       answer_short answer g,
       length-append (decimal number) (space ∷ (answer_text answer ++ (newline ∷ []))),
       length-append (answer_text answer) (newline ∷ []),
+    )
+
+-- and so has that of a record that is refused by any number of a byte
+pub refused_line_short : (number refusal : ℕ) → number < 2 ^ 64 → refusal < 2 ^ 8 → length (refused_line number refusal) ≤ 46
+refused_line_short number refusal h g =
+    omega (
+      arith,
+      long_number number h,
+      byte_short refusal (omega (arith, g)),
+      length-append (decimal number) (space ∷ (refusal_text refusal ++ (newline ∷ []))),
+      length-append (refusal_text refusal) (newline ∷ []),
     )
 
 pub last_line_short : (records refusals : ℕ) → records < 2 ^ 64 → refusals < 2 ^ 64 → length (last_line records refusals) ≤ 46

@@ -27,7 +27,11 @@ answer_text (Err refusal) = refusal_text (refusal_number refusal)
 answer_text (Ok NotOurs) = verdict_text 0 (Ok NotOurs)
 answer_text (Ok (Judged verdict count replaced)) = verdict_text (number_of verdict) (Ok (Judged verdict count replaced))
 
--- "A line is: record number from 1", and what was answered
+-- the line of a record that is refused, by its number and the refusal's, whatever that is
+abbrev pub refused_line : ℕ → ℕ → List ℕ
+refused_line number refusal = decimal number ++ (space ∷ (refusal_text refusal ++ (newline ∷ [])))
+
+-- "A line is: record number from 1", and what was answered. `line number (Err refusal)` is `refused_line number (refusal_number refusal)`.
 abbrev pub line : ℕ → Result Answer Refusal → List ℕ
 line number answer = decimal number ++ (space ∷ (answer_text answer ++ (newline ∷ [])))
 

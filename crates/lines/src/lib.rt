@@ -2,10 +2,9 @@
 // there is no room is left out.
 #![tactic(auto)]
 
-ghost use Rattle.std.specs.Prelude.{◌≡◌, ◌∷◌, ◌++◌};
-ghost use Rattle.refused.specs.Refused.{refusal_number};
+ghost use Rattle.std.specs.Prelude.{◌≡◌, ◌∷◌, ◌++◌, Ok};
 ghost use Rattle.lines.specs.Text.{space, dot, decimal, signed, dotted, or_dash};
-ghost use Rattle.lines.specs.Lines.{refusal_text, answer_text, line, last_line};
+ghost use Rattle.lines.specs.Lines.{refusal_text, answer_text, refused_line, line, last_line};
 ghost use Rattle.lines.specs.Room.{put_byte, put};
 
 use refused::Refusal;
@@ -99,12 +98,12 @@ impl Room<'_> {
         }
     }
 
-    fn refusal(&mut self, refusal: Refusal)
+    fn refusal(&mut self, refusal: u8)
         ensures same { self.new.bytes.ghost_name ≡ self.old.bytes.ghost_name }
-        ensures put { room_in self.new ≡ put (refusal_text (refusal_number refusal)) (room_in self.old) }
+        ensures put { room_in self.new ≡ put (refusal_text refusal) (room_in self.old) }
     {
         self.text(b"R ");
-        self.decimal(u8::from(refusal) as u64);
+        self.decimal(refusal as u64);
     }
 
     // A verdict's number, and a count and a replaced address after it.
@@ -120,21 +119,40 @@ impl Room<'_> {
         self.replaced(replaced);
     }
 
-    fn answer(&mut self, answer: Result<Answer, Refusal>)
+    fn answer(&mut self, answer: Answer)
         ensures same { self.new.bytes.ghost_name ≡ self.old.bytes.ghost_name }
-        ensures put { room_in self.new ≡ put (answer_text answer) (room_in self.old) }
+        ensures put { room_in self.new ≡ put (answer_text (Ok answer)) (room_in self.old) }
     {
         match answer {
-            Err(refusal) => self.refusal(refusal),
-            Ok(Answer::NotOurs) => self.text(b"0 - -"),
-            Ok(
-                Answer::Judged {
-                    verdict,
-                    count,
-                    replaced,
-                },
-            ) => self.verdict(u8::from(verdict), count, replaced),
+            Answer::NotOurs => self.text(b"0 - -"),
+            Answer::Judged {
+                verdict,
+                count,
+                replaced,
+            } => self.verdict(u8::from(verdict), count, replaced),
         }
+    }
+
+    // Puts the line of a record that is refused, by its number and the refusal's, which may be any.
+    pub fn refused_line(&mut self, number: u64, refusal: u8)
+        ensures same { self.new.bytes.ghost_name ≡ self.old.bytes.ghost_name }
+        ensures put { room_in self.new ≡ put (refused_line number refusal) (room_in self.old) }
+    {
+        self.decimal(number);
+        self.byte(b' ');
+        self.refusal(refusal);
+        self.byte(b'\n');
+    }
+
+    // The line of a record that is answered.
+    fn answered_line(&mut self, number: u64, answer: Answer)
+        ensures same { self.new.bytes.ghost_name ≡ self.old.bytes.ghost_name }
+        ensures put { room_in self.new ≡ put (line number (Ok answer)) (room_in self.old) }
+    {
+        self.decimal(number);
+        self.byte(b' ');
+        self.answer(answer);
+        self.byte(b'\n');
     }
 
     // Puts the line of a record, by its number and what was answered.
@@ -142,10 +160,10 @@ impl Room<'_> {
         ensures same { self.new.bytes.ghost_name ≡ self.old.bytes.ghost_name }
         ensures put { room_in self.new ≡ put (line number answer) (room_in self.old) }
     {
-        self.decimal(number);
-        self.byte(b' ');
-        self.answer(answer);
-        self.byte(b'\n');
+        match answer {
+            Err(refusal) => self.refused_line(number, u8::from(refusal)),
+            Ok(answer) => self.answered_line(number, answer),
+        }
     }
 
     // Puts the last line: how many records were read whole, and how many refusals there were.

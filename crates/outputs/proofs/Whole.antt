@@ -8,21 +8,22 @@ use native.Mathlib.Omega.{arith}
 use lib.ListN.{length, take, drop}
 use Rattle.words.specs.Words.{stored}
 use Rattle.words.proofs.Words.{all_stored, nothing_stored}
-use Rattle.std.specs.Prelude.{Option, Result}
+use Rattle.std.specs.Prelude.{Option, None, Some, Result, Err}
 use Rattle.refused.specs.declared.Refusal.{Refusal}
+use Rattle.refused.specs.Refused.{refusal_number}
 use Rattle.rulings.specs.declared.answers.Answer.{Answer}
 use Rattle.rulings.specs.Answers.{forwarded_told}
 use Rattle.reasons.specs.declared.Explanation.{Explanation}
 use Rattle.explanations.specs.Explanations.{asked_text}
-use Rattle.explanations.proofs.Short.{AskedSized, asked_short}
+use Rattle.explanations.proofs.Short.{AskedSized, refused_asked_short, asked_short}
 use Rattle.lines.specs.Lines.{line}
 use Rattle.lines.specs.Room.{Room, room_of, put}
-use Rattle.lines.proofs.Whole.{whole, InRange, line_short}
+use Rattle.lines.proofs.Whole.{whole, InRange, refused_line_short, line_short}
 use Rattle.capture.specs.Format.{header_bytes, Content, record_bytes}
 use Rattle.capture.proofs.Writings.{have_room, few_enough, the_header}
 use Rattle.outputs.specs.declared.Output.{Output}
 use Rattle.outputs.specs.declared.Output.TheVariants.{Lines, Forwarded, Reasons}
-use Rattle.outputs.specs.Outputs.{told_of, opening_of, room_after, forwarded_put, told_put, opening_put}
+use Rattle.outputs.specs.Outputs.{told_of, refused_of, opening_of, room_after, forwarded_put, told_put, opening_put}
 use Rattle.outputs.proofs.Cases.{goes_through, is_held_back}
 
 abbrev pub Stored : List ℕ → ℕ → List ℕ → Room
@@ -52,6 +53,11 @@ module _ (at : ℕ) (room : List ℕ) where
   told_whole Forwarded number r answer asked few h = forwarded_whole r answer few (forwarded_told answer) refl h
   told_whole (Reasons wanted) number r answer asked few h = line_whole (asked_text wanted number r.seconds asked) h
 
+  -- and so is what is put out for a record that is refused, by any number
+  pub refused_whole : (output : Output) (number refusal : ℕ) → at + length (refused_of output number refusal) ≤ length room
+      → put (refused_of output number refusal) (room_of at room) ≡ Stored (refused_of output number refusal) at room
+  refused_whole output number refusal h = line_whole (refused_of output number refusal) h
+
   nothing_put : at + 0 ≤ length room → room_of at room ≡ Stored [] at room
   nothing_put h =
       let end : at + 0 ≡ at = omega arith in
@@ -70,7 +76,21 @@ Sized Lines r answer asked = InRange answer
 Sized Forwarded r answer asked = Unit {0}
 Sized (Reasons wanted) r answer asked = (r.seconds < 2 ^ 32) × AskedSized asked
 
--- any line, any record and any explanation has place in 2,064 bytes
+-- what is put out for a record that is refused is what its number says
+pub told_refused : (output : Output) (number : ℕ) (r : Content) (refusal : Refusal)
+    → told_of output number r (Err refusal) (Some (Err refusal)) ≡ refused_of output number (refusal_number refusal)
+told_refused Lines number r refusal = refl
+told_refused Forwarded number r refusal = refl
+told_refused (Reasons None) number r refusal = refl
+told_refused (Reasons (Some wanted)) number r refusal = refl
+
+-- it has place in 2,064 bytes, for any number of a byte
+pub refused_short : (output : Output) (number refusal : ℕ) → number < 2 ^ 64 → refusal < 2 ^ 8 → length (refused_of output number refusal) ≤ 2064
+refused_short Lines number refusal h small = omega (arith, refused_line_short number refusal h small)
+refused_short Forwarded number refusal h small = omega arith
+refused_short (Reasons wanted) number refusal h small = omega (arith, refused_asked_short wanted number refusal h small)
+
+-- and so has any line, any record and any explanation
 pub told_short : (output : Output) (number : ℕ) (r : Content) (answer : Result Answer Refusal) (asked : Option (Result Explanation Refusal)) → number < 2 ^ 64 → Sized output r answer asked
     → length r.bytes ≤ 2048 → length (told_of output number r answer asked) ≤ 2064
 told_short Lines number r answer asked h range few = omega (arith, line_short number answer h range)

@@ -17,39 +17,40 @@ use Rattle.sides.specs.Lists.{bad_list}
 use Rattle.tables.specs.Sizes.{bad_sizes}
 use Rattle.refusals.specs.Refusals.{first_refusal, start_refusal, time_refusal, early_refusal}
 
--- ---- the first test that holds
+-- ---- the first test that holds, whatever stands for a refusal
 -- none of these conditions holds
-abbrev pub NoneOf : List (Refusal × Bool) → Type 0
+abbrev pub NoneOf : {A : Type 0} → List (A × Bool) → Type 0
 NoneOf [] = Unit {0}
 NoneOf (test ∷ tests) = (test.1 ≡ false) × NoneOf tests
 
 -- the tests are those before it, of which none holds, then it, which does, and others
-pub record First (refusal : Refusal) (tests : List (Refusal × Bool)) : Type 0 where
-  pub before : List (Refusal × Bool)
-  pub after : List (Refusal × Bool)
+pub record First {A : Type 0} (refusal : A) (tests : List (A × Bool)) : Type 0 where
+  pub before : List (A × Bool)
+  pub after : List (A × Bool)
   pub split : tests ≡ before ++ ((refusal, true) ∷ after)
   pub none_before : NoneOf before
 
-pub first_given : (tests : List (Refusal × Bool)) (refusal : Refusal) → first_refusal tests ≡ Some refusal → First refusal tests
-first_given [] refusal e = absurd (none-some _ e)
-first_given (test ∷ tests) refusal e = go test.1 refl (first_given tests refusal)
-  where
-    go : (t : Bool) → test.1 ≡ t → (first_refusal tests ≡ Some refusal → First refusal tests) → First refusal (test ∷ tests)
-    go true q rest =
-        let is : test.0 ≡ refusal = same_Some _ _ (sym (cond_at _ _ q) ∙ e) in
-        record { before = []; after = tests; split = λ i. (is i, q i) ∷ tests; none_before = tt }
-    go false q rest =
-        let r = rest (sym (cond_at _ _ q) ∙ e) in
-        record {
-          before = test ∷ r.before;
-          after = r.after;
-          split = ap (λ (l : List (Refusal × Bool)). test ∷ l) r.split;
-          none_before = (q, r.none_before);
-        }
+module _ {A : Type 0} where
+  pub first_given : (tests : List (A × Bool)) (refusal : A) → first_refusal tests ≡ Some refusal → First refusal tests
+  first_given [] refusal e = absurd (none-some _ e)
+  first_given (test ∷ tests) refusal e = go test.1 refl (first_given tests refusal)
+    where
+      go : (t : Bool) → test.1 ≡ t → (first_refusal tests ≡ Some refusal → First refusal tests) → First refusal (test ∷ tests)
+      go true q rest =
+          let is : test.0 ≡ refusal = same_Some _ _ (sym (cond_at _ _ q) ∙ e) in
+          record { before = []; after = tests; split = λ i. (is i, q i) ∷ tests; none_before = tt }
+      go false q rest =
+          let r = rest (sym (cond_at _ _ q) ∙ e) in
+          record {
+            before = test ∷ r.before;
+            after = r.after;
+            split = ap (λ (l : List (A × Bool)). test ∷ l) r.split;
+            none_before = (q, r.none_before);
+          }
 
-pub first_is : (before after : List (Refusal × Bool)) (refusal : Refusal) → NoneOf before → first_refusal (before ++ ((refusal, true) ∷ after)) ≡ Some refusal
-first_is [] after refusal none = refl
-first_is (test ∷ before) after refusal none = cond_at _ _ none.0 ∙ first_is before after refusal none.1
+  pub first_is : (before after : List (A × Bool)) (refusal : A) → NoneOf before → first_refusal (before ++ ((refusal, true) ∷ after)) ≡ Some refusal
+  first_is [] after refusal none = refl
+  first_is (test ∷ before) after refusal none = cond_at _ _ none.0 ∙ first_is before after refusal none.1
 
 -- ---- where there is no refusal, no condition holds
 passed_by : (refusal : Refusal) (t : Bool) {rest : Option Refusal} → cond t (Some refusal) rest ≡ None → (t ≡ false) × (rest ≡ None)

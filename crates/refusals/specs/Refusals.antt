@@ -9,8 +9,8 @@ use Rattle.settings.specs.Settings.{bad_limits}
 use Rattle.sides.specs.Lists.{bad_list}
 use Rattle.tables.specs.Sizes.{bad_sizes}
 
--- A call's tests in their order, each a refusal and whether its condition holds: the refusal of the first that holds.
-abbrev pub first_refusal : List (Refusal × Bool) → Option Refusal
+-- A call's tests in their order, each a refusal, or a number for one, and whether its condition holds: the refusal of the first that holds.
+abbrev pub first_refusal : {A : Type 0} → List (A × Bool) → Option A
 first_refusal [] = None
 first_refusal (test ∷ tests) = cond test.1 (Some test.0) (first_refusal tests)
 

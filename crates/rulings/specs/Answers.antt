@@ -6,8 +6,8 @@ use Rattle.rulings.specs.declared.answers.Answer.{Answer}
 use Rattle.rulings.specs.declared.answers.Answer.TheVariants.{NotOurs, Judged}
 use Rattle.verdicts.specs.Verdicts.{number_of, is_forwarded}
 
--- "0 not ours", and 1 to 6 for a packet of ours
-abbrev pub verdict_told : Result Answer Refusal → Option ℕ
+-- "0 not ours", and 1 to 6 for a packet of ours; a refusal, whatever tells it, has none
+abbrev pub verdict_told : {E : Type 0} → Result Answer E → Option ℕ
 verdict_told (Err refusal) = None
 verdict_told (Ok NotOurs) = Some 0
 verdict_told (Ok (Judged verdict count replaced)) = Some (number_of verdict)

@@ -10,7 +10,6 @@ use lib.Seq.{get_or-set_same, get_or-set_other}
 use Rattle.std.specs.Prelude.{Some, Err}
 use Rattle.verdicts.specs.declared.Verdict.{Verdict}
 use Rattle.verdicts.specs.declared.Verdict.TheVariants.{Uncounted, CreditOfOne, CreditOfTwo, FreshContact, Hygiene, Blocked}
-use Rattle.refused.specs.declared.Refusal.{Refusal}
 use Rattle.rulings.specs.Answers.{verdict_told}
 use Rattle.verdicts.specs.Verdicts.{number_of}
 use Rattle.tally.specs.declared.Tally.{Tally}
@@ -39,8 +38,8 @@ module _ (t : Tally) (n : ℕ) where
   unfolding verdict_numbered tallied
   beyond_seven h = rw (lt-leb n 6 h)
 
--- a refusal adds nothing
-pub refusal_adds_nothing : (t : Tally) (r : Refusal) → tallied t (verdict_told (Err r)) ≡ t
+-- a refusal adds nothing, whatever tells it: one of the nine, or any number
+pub refusal_adds_nothing : {E : Type 0} (t : Tally) (r : E) → tallied t (verdict_told (Err r)) ≡ t
 unfolding tallied
 refusal_adds_nothing t r = refl
 

@@ -22,6 +22,7 @@ use Rattle.capture.specs.declared.Cursor.{Cursor}
 use Rattle.std.specs.Prelude.{Result, Ok, Err}
 use Rattle.refused.specs.declared.Refusal.{Refusal}
 use Rattle.refused.specs.declared.Refusal.TheVariants as refusal
+use Rattle.refused.specs.Refused.{refusal_number}
 use Rattle.capture.specs.declared.Reading.{Reading}
 use Rattle.capture.specs.Capture.{big_endian, bad_words, bad_header, opened_of, record_refusal}
 use Rattle.capture.specs.Whole.{course_of}
@@ -30,8 +31,8 @@ use Rattle.capture.proofs.Readings.{at_the_end}
 use Rattle.capture.proofs.Whole.{says}
 use Rattle.lines.specs.Room.{Room, room_of, put}
 use Rattle.lines.specs.Letters.{text}
-use Rattle.lines.specs.Lines.{line, last_line}
-use Rattle.lines.proofs.Whole.{whole, line_short, last_line_short}
+use Rattle.lines.specs.Lines.{refused_line, line, last_line}
+use Rattle.lines.proofs.Whole.{whole, refusal_small, refused_line_short, line_short, last_line_short}
 use Rattle.outputs.specs.declared.Output.{Output}
 use Rattle.outputs.specs.declared.Output.TheVariants.{Lines, Forwarded, Reasons}
 use Rattle.outputs.specs.Outputs.{opening_of, opening_put}
@@ -92,12 +93,12 @@ module _ (output : Output) (room : List ℕ) (long : 2064 ≤ length room) where
   opening_long = ap (λ (r : Room). length r.bytes) opening_is ∙ stored_length (opening_of output) 0 room
 
 -- ---- how long the last words are
-header_few : (refused : Refusal) → length (header_refused refused) ≤ 92
-header_few refused =
+header_few : (number : ℕ) → number < 2 ^ 8 → length (header_refused number) ≤ 92
+header_few number h =
     omega (
       arith,
-      length-append (line 0 (Err refused)) (last_line 0 1),
-      line_short 0 (Err refused) (omega arith) tt,
+      length-append (refused_line 0 number) (last_line 0 1),
+      refused_line_short 0 number (omega arith) h,
       last_line_short 0 1 (omega arith) (omega arith),
     )
 
@@ -233,10 +234,10 @@ out_by Lines l cursor out end p q = λ i. p i ++ q i
 out_by Forwarded l cursor out end p q = p
 out_by (Reasons wanted) l cursor out end p q = λ i. p i ++ q i
 
-refused_by : (output : Output) (refused : Refusal) → cond (on_output (ending_stream output)) (header_refused refused) [] ≡ refused_output output refused
-refused_by Lines refused = refl
-refused_by Forwarded refused = refl
-refused_by (Reasons wanted) refused = refl
+refused_by : (output : Output) (number : ℕ) → cond (on_output (ending_stream output)) (header_refused number) [] ≡ refused_output output number
+refused_by Lines number = refl
+refused_by Forwarded number = refl
+refused_by (Reasons wanted) number = refl
 
 -- what stands on output is what it takes, and all of that was taken where it takes as many bytes
 module _ (takes : ℕ) (reason : List ℕ) (output : Output) (out lines : List ℕ) (within : length out ≤ takes) where
@@ -643,38 +644,44 @@ module _ (takes : ℕ) (reason : List ℕ) (output : Output) (pieces : List (Lis
 
     -- ---- a header that is refused
     module _ (found : is_lost r.turn.stage ≡ false) (refused : Refusal) (e : opened_of capture ≡ Err refused) where
-      few : length (header_refused refused) ≤ length room
-      few = omega (arith, given.room_long, header_few refused)
+      abbrev number : ℕ
+      number = refusal_number refused
 
-      lines_in : put_in (put (header_refused refused) (room_of 0 room)) ≡ header_refused refused
-      lines_in = put_in_lem (header_refused refused) room few
+      small : number < 2 ^ 8
+      small = omega (arith, refusal_small refused)
 
-      long : 2064 ≤ length (put (header_refused refused) (room_of 0 room)).bytes
-      long = omega (arith, given.room_long, same_long (header_refused refused) room few)
+      few : length (header_refused number) ≤ length room
+      few = omega (arith, given.room_long, header_few number small)
+
+      lines_in : put_in (put (header_refused number) (room_of 0 room)) ≡ header_refused number
+      lines_in = put_in_lem (header_refused number) room few
+
+      long : 2064 ≤ length (put (header_refused number) (room_of 0 room)).bytes
+      long = omega (arith, given.room_long, same_long (header_refused number) room few)
 
       abbrev lines_put : List ℕ
-      lines_put = put_in (put (header_refused refused) (room_of 0 room))
+      lines_put = put_in (put (header_refused number) (room_of 0 room))
 
-      refused_said : said ≡ said_last takes reason output (ending_stream output) r.turn.stage (put (header_refused refused) (room_of 0 room)).bytes [] lines_put
+      refused_said : said ≡ said_last takes reason output (ending_stream output) r.turn.stage (put (header_refused number) (room_of 0 room)).bytes [] lines_put
       refused_said = said_by (Err refused) found e
 
       out_is : all_of takes reason output [] lines_put (omega arith) ≡ program_output output capture
       out_is =
           ap (λ (lines : List ℕ). cond (on_output (ending_stream output)) lines []) lines_in
-          ∙ refused_by output refused
+          ∙ refused_by output number
           ∙ sym (ap (opened_output output capture program_tables) e)
 
       refused_out : said.out ≡ take takes (program_output output capture)
       refused_out =
           ap (λ (x : Said). x.out) refused_said
-          ∙ last_out takes reason output r.turn.stage (put (header_refused refused) (room_of 0 room)).bytes [] lines_put
+          ∙ last_out takes reason output r.turn.stage (put (header_refused number) (room_of 0 room)).bytes [] lines_put
           ∙ cut_out takes reason output [] lines_put (omega arith)
           ∙ ap (take takes) out_is
 
       refused_beside : length (program_output output capture) ≤ takes → said.beside ≡ program_beside output capture
       refused_beside h =
           ap (λ (x : Said). x.beside) refused_said
-          ∙ last_beside takes reason r.turn.stage (put (header_refused refused) (room_of 0 room)).bytes [] lines_put long head.heading.written found output
+          ∙ last_beside takes reason r.turn.stage (put (header_refused number) (room_of 0 room)).bytes [] lines_put long head.heading.written found output
           (taken_if takes reason output [] lines_put (omega arith) (omega (arith, h, ap length out_is)))
           ∙ (λ i. beside_of output (lines_in i) (head.heading.none_told i).records)
           ∙ sym (ap (opened_beside output capture) e)
@@ -682,7 +689,7 @@ module _ (takes : ℕ) (reason : List ℕ) (output : Output) (pieces : List (Lis
       refused_broken : takes < length (program_output output capture) → said.beside ≡ []
       refused_broken h =
           ap (λ (x : Said). x.beside) refused_said
-          ∙ last_broken takes reason r.turn.stage (put (header_refused refused) (room_of 0 room)).bytes [] lines_put long head.heading.written found output
+          ∙ last_broken takes reason r.turn.stage (put (header_refused number) (room_of 0 room)).bytes [] lines_put long head.heading.written found output
           (broken_if takes reason output [] lines_put (omega arith) (omega (arith, h, ap length out_is)))
 
     -- ---- a header that opens

@@ -3,6 +3,7 @@
 use Rattle.std.specs.Prelude.{Bool, true, false, cond, List, [], ◌∷◌, ◌++◌, ℕ, zero, suc, min, ◌+◌, ◌-◌, ◌<◌, leb, length, take, drop, Option, None, Some, Result, Ok, Err}
 use Rattle.words.specs.Words.{stored}
 use Rattle.refused.specs.declared.Refusal.{Refusal}
+use Rattle.refused.specs.Refused.{refusal_number}
 use Rattle.capture.specs.declared.Cursor.{Cursor}
 use Rattle.capture.specs.Capture.{opened_of}
 use Rattle.lines.specs.Lines.{newline}
@@ -193,7 +194,7 @@ abbrev pub beside_of : Output → List ℕ → ℕ → List ℕ
 beside_of output lines records = lines_beside output lines ++ cond (is_missing output records) missing_words []
 
 abbrev pub opened_beside : Output → List ℕ → Result Cursor Refusal → List ℕ
-opened_beside output l (Err refusal) = beside_of output (header_refused refusal) 0
+opened_beside output l (Err refusal) = beside_of output (header_refused (refusal_number refusal)) 0
 opened_beside output l (Ok cursor) = beside_of output (ending_of output l cursor program_tables) (told_of_capture output l cursor program_tables).records
 
 abbrev pub program_beside : Output → List ℕ → List ℕ

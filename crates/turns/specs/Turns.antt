@@ -2,6 +2,7 @@
 -- Assumes nothing.
 use Rattle.std.specs.Prelude.{Bool, true, false, cond, not, ◌&&◌, ◌||◌, List, [], ℕ, min, eqb, leb, ltb, ℤ, pos, negsuc, length, take, Some, None, Result, Ok, Err}
 use Rattle.refused.specs.declared.Refusal.{Refusal}
+use Rattle.refused.specs.Refused.{refusal_number}
 use Rattle.capture.specs.declared.Cursor.{Cursor}
 use Rattle.gateway.specs.Calls.{State}
 use Rattle.lines.specs.Letters.{text}
@@ -153,8 +154,8 @@ beginning_of begun room = record { begun = begun; room = room }
 abbrev pub begun_by : Output → Result Cursor Refusal → List ℕ → Beginning
 begun_by output (Err refusal) room =
     beginning_of
-    (record { put = (put (header_refused refusal) (room_of 0 room)).end; first = None })
-    (put (header_refused refusal) (room_of 0 room)).bytes
+    (record { put = (put (header_refused (refusal_number refusal)) (room_of 0 room)).end; first = None })
+    (put (header_refused (refusal_number refusal)) (room_of 0 room)).bytes
 begun_by output (Ok cursor) room =
     beginning_of
     (record { put = (opening_put output (room_of 0 room)).end; first = Some cursor })

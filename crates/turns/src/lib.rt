@@ -270,7 +270,7 @@ pub fn begin(output: Output, header: &[u8], room: &mut [u8]) -> Begun
     let opened = capture::open(header);
     match opened {
         Ok(_) => outputs::put_opening(output, &mut out),
-        Err(refusal) => endings::put_refused_header(&mut out, refusal),
+        Err(refusal) => endings::put_refused_header(&mut out, u8::from(refusal)),
     }
     Begun {
         put: out.at,

@@ -4,8 +4,7 @@ use Rattle.lines.specs.Letters.{text}
 use Rattle.lines.proofs.Rooms.{text_then}
 use Rattle.explanations.proofs.put_explanation.Goals as goal
 
-pub returns-in-Ok-NotOurs-clause-put : goal.returns-in-Ok-NotOurs-clause-put
+pub returns-in-NotOurs-clause-put : goal.returns-in-NotOurs-clause-put
 unfolding text
-returns-in-Ok-NotOurs-clause-put c =
-    let not_ours = rw c.in-Ok-NotOurs.is at c.in-Ok-NotOurs.field-0-is in
-    rw (c.in-Ok-NotOurs.is, not_ours) (text_then _ _ _ c.decimal-in-Ok-NotOurs.ensures.put c.text.ensures.put)
+returns-in-NotOurs-clause-put c =
+    rw c.in-NotOurs.is (text_then _ _ _ c.decimal.ensures.put c.text.ensures.put)
