@@ -1,6 +1,6 @@
--- For every public function of a library, but for those that are named below with the reason: two outcomes that its contract allows are
--- equal. An outcome is what is returned and all that is left in lent memory; `Learnt` is what a contract tells its caller. tools/one-outcome
--- writes this file from the sources.
+-- For every public function and every From of a library, but for those that are named below with the reason: two outcomes that its
+-- contract allows are equal. An outcome is what is returned and all that is left in lent memory; `Learnt` is what a contract tells its
+-- caller. tools/one-outcome writes this file from the sources.
 -- Assumes nothing.
 use Rattle.arguments.proofs.record_number.Reads as arguments_record_number
 use Rattle.capture.proofs.next.Reads as capture_next
@@ -15,6 +15,11 @@ use Rattle.counts.proofs.is_blocked.Reads as counts_is_blocked
 use Rattle.counts.proofs.is_empty.Reads as counts_is_empty
 use Rattle.counts.proofs.lowered.Reads as counts_lowered
 use Rattle.counts.proofs.raised.Reads as counts_raised
+use Rattle.embed.proofs.plain.PlainAnswerFromResultAnswerRefusal.from.Reads as embed_plain_plainanswer_from_result_answer_refusal
+use Rattle.embed.proofs.plain.PlainNextFromReading.from.Reads as embed_plain_plainnext_from_reading
+use Rattle.embed.proofs.plain.PlainOpeningFromResultCursorRefusal.from.Reads as embed_plain_plainopening_from_result_cursor_refusal
+use Rattle.embed.proofs.plain.PlainWinnerFromOptionWinning.from.Reads as embed_plain_plainwinner_from_option_winning
+use Rattle.embed.proofs.plain.PlainWrittenFromResultUsizeRefusal.from.Reads as embed_plain_plainwritten_from_result_usize_refusal
 use Rattle.embed.proofs.plain.of_reply.Reads as embed_plain_of_reply
 use Rattle.embed.proofs.plain.tally_with.Reads as embed_plain_tally_with
 use Rattle.embed.proofs.spritgrommet_cold_start.Reads as embed_spritgrommet_cold_start
@@ -31,6 +36,8 @@ use Rattle.embed.proofs.spritgrommet_put_record.Reads as embed_spritgrommet_put_
 use Rattle.embed.proofs.spritgrommet_tally.Reads as embed_spritgrommet_tally
 use Rattle.embed.proofs.spritgrommet_winner.Reads as embed_spritgrommet_winner
 use Rattle.embed.specs.Plain.{plain_put_of}
+use Rattle.embed_why.proofs.plain.PlainReasonFromDrop.from.Reads as embed_why_plain_plainreason_from_drop
+use Rattle.embed_why.proofs.plain.PlainReasonFromResultExplanationRefusal.from.Reads as embed_why_plain_plainreason_from_result_explanation_refusal
 use Rattle.embed_why.proofs.spritgrommet_why.Reads as embed_why_spritgrommet_why
 use Rattle.embed_why.proofs.spritgrommet_why_frame.Reads as embed_why_spritgrommet_why_frame
 use Rattle.endings.proofs.one_more.Reads as endings_one_more
@@ -40,6 +47,7 @@ use Rattle.entries.proofs.count_of.Reads as entries_count_of
 use Rattle.entries.proofs.write.Reads as entries_write
 use Rattle.entries.specs.Entries.{written_of}
 use Rattle.explanations.proofs.put_asked.Reads as explanations_put_asked
+use Rattle.explanations.proofs.put_refused.Reads as explanations_put_refused
 use Rattle.feeding.proofs.feed.Reads as feeding_feed
 use Rattle.feeding.specs.Feeding.{replayed_of}
 use Rattle.frames.proofs.judge.Reads as frames_judge
@@ -59,6 +67,7 @@ use Rattle.lines.proofs.Room.decimal.Reads as lines_room_decimal
 use Rattle.lines.proofs.Room.dotted.Reads as lines_room_dotted
 use Rattle.lines.proofs.Room.last_line.Reads as lines_room_last_line
 use Rattle.lines.proofs.Room.line.Reads as lines_room_line
+use Rattle.lines.proofs.Room.refused_line.Reads as lines_room_refused_line
 use Rattle.lines.proofs.Room.signed.Reads as lines_room_signed
 use Rattle.lines.proofs.Room.text.Reads as lines_room_text
 use Rattle.lines.specs.Room.{left_room}
@@ -82,6 +91,7 @@ use Rattle.records.proofs.renewed.Reads as records_renewed
 use Rattle.refusals.proofs.of_packet.Reads as refusals_of_packet
 use Rattle.refusals.proofs.of_start.Reads as refusals_of_start
 use Rattle.refusals.proofs.of_time.Reads as refusals_of_time
+use Rattle.refused.proofs.U8FromRefusal.from.Reads as refused_u8_from_refusal
 use Rattle.replay.proofs.next.Reads as replay_next
 use Rattle.replay.proofs.program_placing.Reads as replay_program_placing
 use Rattle.rulings.proofs.ruling_of.Reads as rulings_ruling_of
@@ -120,6 +130,7 @@ use Rattle.turns.proofs.take.Reads as turns_take
 use Rattle.turns.proofs.written.Reads as turns_written
 use Rattle.turns.specs.Turns.{beginning_of}
 use Rattle.turns.specs.Turns.{turn_of}
+use Rattle.verdicts.proofs.U8FromVerdict.from.Reads as verdicts_u8_from_verdict
 use Rattle.verdicts.proofs.is_dropped.Reads as verdicts_is_dropped
 use Rattle.verdicts.proofs.number.Reads as verdicts_number
 use Rattle.verdicts.proofs.record_after.Reads as verdicts_record_after
@@ -147,6 +158,9 @@ both x = record { entry = x; exit = x }
 -- the one lemma: a contract is an equation of its outcome with a definition's value at the entry
 same : {O : Type 0} {x y d : O} → x ≡ d → y ≡ d → x ≡ y
 same p q = p ∙ sym q
+
+pub refused_u8_from_refusal_one : (κs : _) (a : _) → One (refused_u8_from_refusal.Learnt κs a) (λ x s. x)
+refused_u8_from_refusal_one κs a x y s t p q = same p q
 
 pub words_of_four_one : (κs : _) (a : _) → One (words_of_four.Learnt κs a) (λ x s. x)
 words_of_four_one κs a x y s t p q = same p q
@@ -295,6 +309,9 @@ verdicts_verdict_of_one κs a x y s t p q = same p q
 pub verdicts_record_after_one : (κs : _) (a : _) → One (verdicts_record_after.Learnt κs a) (λ x s. x)
 verdicts_record_after_one κs a x y s t p q = same p q
 
+pub verdicts_u8_from_verdict_one : (κs : _) (a : _) → One (verdicts_u8_from_verdict.Learnt κs a) (λ x s. x)
+verdicts_u8_from_verdict_one κs a x y s t p q = same p q
+
 pub reasons_report_one : (κs : _) (a : _) → One (reasons_report.Learnt κs a) (λ x s. x)
 reasons_report_one κs a x y s t p q = same p q
 
@@ -316,6 +333,9 @@ lines_room_signed_one κs a x y s t p q = same p.1 q.1
 pub lines_room_dotted_one : (κs : _) (a : _) → One (lines_room_dotted.Learnt κs a) (λ x s. room_in s.0.now)
 lines_room_dotted_one κs a x y s t p q = same p.1 q.1
 
+pub lines_room_refused_line_one : (κs : _) (a : _) → One (lines_room_refused_line.Learnt κs a) (λ x s. room_in s.0.now)
+lines_room_refused_line_one κs a x y s t p q = same p.1 q.1
+
 pub lines_room_line_one : (κs : _) (a : _) → One (lines_room_line.Learnt κs a) (λ x s. room_in s.0.now)
 lines_room_line_one κs a x y s t p q = same p.1 q.1
 
@@ -324,6 +344,9 @@ lines_room_last_line_one κs a x y s t p q = same p.1 q.1
 
 pub arguments_record_number_one : (κs : _) (a : _) → One (arguments_record_number.Learnt κs a) (λ x s. x)
 arguments_record_number_one κs a x y s t p q = same p q
+
+pub explanations_put_refused_one : (κs : _) (a : _) → One (explanations_put_refused.Learnt κs a) (λ x s. room_in s.0.now)
+explanations_put_refused_one κs a x y s t p q = same p.1 q.1
 
 pub explanations_put_asked_one : (κs : _) (a : _) → One (explanations_put_asked.Learnt κs a) (λ x s. room_in s.0.now)
 explanations_put_asked_one κs a x y s t p q = same p.1 q.1
@@ -493,11 +516,32 @@ embed_plain_of_reply_one κs a x y s t p q = same p q
 pub embed_plain_tally_with_one : (κs : _) (a : _) → One (embed_plain_tally_with.Learnt κs a) (λ x s. x)
 embed_plain_tally_with_one κs a x y s t p q = same p q
 
+pub embed_plain_plainanswer_from_result_answer_refusal_one : (κs : _) (a : _) → One (embed_plain_plainanswer_from_result_answer_refusal.Learnt κs a) (λ x s. x)
+embed_plain_plainanswer_from_result_answer_refusal_one κs a x y s t p q = same p q
+
+pub embed_plain_plainwritten_from_result_usize_refusal_one : (κs : _) (a : _) → One (embed_plain_plainwritten_from_result_usize_refusal.Learnt κs a) (λ x s. x)
+embed_plain_plainwritten_from_result_usize_refusal_one κs a x y s t p q = same p q
+
+pub embed_plain_plainwinner_from_option_winning_one : (κs : _) (a : _) → One (embed_plain_plainwinner_from_option_winning.Learnt κs a) (λ x s. x)
+embed_plain_plainwinner_from_option_winning_one κs a x y s t p q = same p q
+
+pub embed_plain_plainopening_from_result_cursor_refusal_one : (κs : _) (a : _) → One (embed_plain_plainopening_from_result_cursor_refusal.Learnt κs a) (λ x s. x)
+embed_plain_plainopening_from_result_cursor_refusal_one κs a x y s t p q = same p q
+
+pub embed_plain_plainnext_from_reading_one : (κs : _) (a : _) → One (embed_plain_plainnext_from_reading.Learnt κs a) (λ x s. x)
+embed_plain_plainnext_from_reading_one κs a x y s t p q = same p q
+
 pub embed_why_spritgrommet_why_one : (κs : _) (a : _) → One (embed_why_spritgrommet_why.Learnt κs a) (λ x s. x)
 embed_why_spritgrommet_why_one κs a x y s t p q = same p q
 
 pub embed_why_spritgrommet_why_frame_one : (κs : _) (a : _) → One (embed_why_spritgrommet_why_frame.Learnt κs a) (λ x s. x)
 embed_why_spritgrommet_why_frame_one κs a x y s t p q = same p q
+
+pub embed_why_plain_plainreason_from_drop_one : (κs : _) (a : _) → One (embed_why_plain_plainreason_from_drop.Learnt κs a) (λ x s. x)
+embed_why_plain_plainreason_from_drop_one κs a x y s t p q = same p q
+
+pub embed_why_plain_plainreason_from_result_explanation_refusal_one : (κs : _) (a : _) → One (embed_why_plain_plainreason_from_result_explanation_refusal.Learnt κs a) (λ x s. x)
+embed_why_plain_plainreason_from_result_explanation_refusal_one κs a x y s t p q = same p q
 
 -- programs::replay is left out: it answers nothing, is lent the runtime alone, and what it reads and writes no contract can say
 
