@@ -14,17 +14,23 @@ use Rattle.refused.specs.Refused.{refusal_number}
 use Rattle.rulings.specs.declared.answers.Answer.{Answer}
 use Rattle.rulings.specs.Answers.{forwarded_told}
 use Rattle.reasons.specs.declared.Explanation.{Explanation}
-use Rattle.explanations.specs.Explanations.{asked_text}
+use Rattle.explanations.specs.Explanations.{refused_asked, asked_text}
 use Rattle.explanations.proofs.Short.{AskedSized, refused_asked_short, asked_short}
-use Rattle.lines.specs.Lines.{line}
+use Rattle.lines.specs.Lines.{refused_line, line}
 use Rattle.lines.specs.Room.{Room, room_of, put}
 use Rattle.lines.proofs.Whole.{whole, InRange, refused_line_short, line_short}
 use Rattle.capture.specs.Format.{header_bytes, Content, record_bytes}
 use Rattle.capture.proofs.Writings.{have_room, few_enough, the_header}
 use Rattle.outputs.specs.declared.Output.{Output}
 use Rattle.outputs.specs.declared.Output.TheVariants.{Lines, Forwarded, Reasons}
-use Rattle.outputs.specs.Outputs.{told_of, refused_of, opening_of, room_after, forwarded_put, told_put, opening_put}
+use Rattle.outputs.specs.Outputs.{told_of, opening_of, room_after, forwarded_put, told_put, opening_put}
 use Rattle.outputs.proofs.Cases.{goes_through, is_held_back}
+
+-- what a program puts out for a record that is refused, by the refusal's number, whatever that is
+abbrev pub refused_of : Output → ℕ → ℕ → List ℕ
+refused_of Lines number refusal = refused_line number refusal
+refused_of Forwarded number refusal = []
+refused_of (Reasons wanted) number refusal = refused_asked wanted number refusal
 
 abbrev pub Stored : List ℕ → ℕ → List ℕ → Room
 Stored text at room = room_of (at + length text) (stored text at room)

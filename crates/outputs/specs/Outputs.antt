@@ -5,12 +5,12 @@ use Rattle.std.specs.Prelude.{Bool, true, false, cond, List, [], ℕ, Option, Re
 use Rattle.refused.specs.declared.Refusal.{Refusal}
 use Rattle.rulings.specs.declared.answers.Answer.{Answer}
 use Rattle.rulings.specs.Answers.{forwarded_told}
-use Rattle.lines.specs.Lines.{refused_line, line}
+use Rattle.lines.specs.Lines.{line}
 use Rattle.lines.specs.Room.{Room, room_of, put}
 use Rattle.capture.specs.Format.{header_bytes, Content, record_bytes}
 use Rattle.capture.specs.Writing.{Put, header_put, record_put}
 use Rattle.reasons.specs.declared.Explanation.{Explanation}
-use Rattle.explanations.specs.Explanations.{refused_asked, asked_text}
+use Rattle.explanations.specs.Explanations.{asked_text}
 use Rattle.outputs.specs.declared.Output.{Output}
 use Rattle.outputs.specs.declared.Output.TheVariants.{Lines, Forwarded, Reasons}
 
@@ -26,12 +26,6 @@ abbrev pub told_of : Output → ℕ → Content → Result Answer Refusal → Op
 told_of Lines number r answer asked = line number answer
 told_of Forwarded number r answer asked = cond (forwarded_told answer) (record_bytes false r) []
 told_of (Reasons wanted) number r answer asked = asked_text wanted number r.seconds asked
-
--- and for one that is refused, by the refusal's number, whatever that is
-abbrev pub refused_of : Output → ℕ → ℕ → List ℕ
-refused_of Lines number refusal = refused_line number refusal
-refused_of Forwarded number refusal = []
-refused_of (Reasons wanted) number refusal = refused_asked wanted number refusal
 
 -- before the first record: "7 yields no output", so not before the header was read
 abbrev pub opening_of : Output → List ℕ
